@@ -12,7 +12,7 @@ pub struct Instruction {
 }
 
 // What an instruction is to a round.
-#[derive(Clone, Copy)]
+#[derive(Clone, Copy, PartialEq, Eq)]
 pub enum Role {
     // the call of the helper that keeps the state
     Save,

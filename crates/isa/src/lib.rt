@@ -5,6 +5,7 @@ pub mod instruction;
 pub mod kind;
 pub mod lawful;
 pub mod opcode;
+pub mod reason;
 pub mod refusal;
 pub mod rule;
 pub mod slot;

@@ -8,7 +8,7 @@ use crate::kind::Source;
 use crate::kind::Test;
 use crate::kind::Width;
 
-static KINDS: [Option<Kind>; 256] = [
+const KINDS: &[Option<Kind>; 256] = &[
     // 0x00
     None,
     None,

@@ -1,0 +1,3 @@
+pub mod Operand
+pub mod Symbol
+pub mod Text

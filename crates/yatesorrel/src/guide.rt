@@ -1,0 +1,63 @@
+// The guided task: one real round from its bytes to a verdict.
+use crate::list::print_refusal;
+use crate::list::print_roles;
+use crate::slots::print_slot;
+use crate::slots::print_slots;
+use crate::verdict::Verdict;
+use isa::lawful::lawful;
+use rounds::piezometer_pair::PIEZOMETER_PAIR;
+use std::io;
+
+// The slot whose jump is damaged, the byte with its distance, and what the
+// byte becomes.
+const DAMAGED_SLOT: u16 = 7;
+
+const DAMAGED_BYTE: usize = 58;
+
+const DAMAGE: u8 = 0x81;
+
+fn print_verdict(rt: &LibcRuntime, image: &[u8]) -> io::Result<()> {
+    match lawful(image) {
+        Ok(()) => println!(rt, "lawful"),
+        Err(refusal) => print_refusal(rt, refusal),
+    }
+}
+
+fn show_round(rt: &LibcRuntime) -> io::Result<()> {
+    println!(
+        rt,
+        "A reading round of a piezometer pair, compiled from examples/piezometer_pair.c:"
+    )?;
+    println!(rt)?;
+    print_slots(rt, &PIEZOMETER_PAIR)?;
+    println!(rt)?;
+    println!(
+        rt,
+        "Is it lawful? Every opcode, register, field and helper, and every way out:"
+    )?;
+    print_verdict(rt, &PIEZOMETER_PAIR)?;
+    println!(rt)?;
+    println!(
+        rt,
+        "Where it keeps its state, and where the placer may make it do so:"
+    )?;
+    print_roles(rt, &PIEZOMETER_PAIR)
+}
+
+fn show_damage(rt: &LibcRuntime) -> io::Result<()> {
+    let mut damaged = PIEZOMETER_PAIR;
+    damaged[DAMAGED_BYTE] = DAMAGE;
+    println!(
+        rt,
+        "One damaged byte, {DAMAGED_BYTE} of the image, sends a jump astray:"
+    )?;
+    print_slot(rt, &damaged, DAMAGED_SLOT)?;
+    print_verdict(rt, &damaged)
+}
+
+pub fn guide(rt: &LibcRuntime) -> io::Result<Verdict> {
+    show_round(rt)?;
+    println!(rt)?;
+    show_damage(rt)?;
+    Ok(Verdict::Passed)
+}

@@ -3,22 +3,19 @@
 --     waysOut x                its ways out: the next slot and the target of a jump, each present or not
 --     roleOf x                 a save, an idle slot, EXIT, or any other
 --     Registered x             its registers are among r0 to r10
-use mathlib.Core.Bool.{Bool, true, false, cond}
-use Prim.Native.Nat.{ℕ, _+_, _≤_}
-use lib.Dec.{eqb}
-use lib.IntN.{ℤ, pos, negsuc, _+ℤ_}
+use mathlib.Core.Bool.{cond}
+use Prim.Native.Nat.{_+_, _≤_}
+use lib.IntN.{ℤ, pos, _+ℤ_}
 use Rattle.std.specs.declared.option.Option.{Option}
 use Rattle.std.specs.declared.option.Option.the-variants.{Some, None}
 use Rattle.isa.specs.declared.kind.Kind.{Kind}
 use Rattle.isa.specs.declared.kind.Kind.the-variants.{Arithmetic, Branch, Jump, Call, Exit, Load, StoreImm, StoreReg}
+use Rattle.isa.specs.declared.helper.Helper.{Helper}
+use Rattle.isa.specs.declared.helper.Helper.the-variants as helper
 use Rattle.isa.specs.declared.instruction.Instruction.{Instruction}
 use Rattle.isa.specs.declared.instruction.Role.{Role}
 use Rattle.isa.specs.declared.instruction.Role.the-variants as role
-
--- whether a signed field holds a number
-abbrev pub holds : ℤ → ℕ → Bool
-holds (pos n) k = eqb n k
-holds (negsuc n) k = false
+use Rattle.isa.specs.Helper.{holds, helperOf}
 
 abbrev pub nextOf : Instruction → ℤ
 nextOf x = pos (x .at + 1)
@@ -40,9 +37,15 @@ waysBy (StoreReg z) next target = (Some next, None)
 abbrev pub waysOut : Instruction → Option ℤ × Option ℤ
 waysOut x = waysBy (x .kind) (nextOf x) (targetOf x)
 
--- a save is CALL with imm 1, an idle slot JA with offset 0
+abbrev pub roleOfCall : Option Helper → Role
+roleOfCall (Some helper.Save) = role.Save
+roleOfCall (Some helper.NextReading) = role.Other
+roleOfCall (Some helper.Record) = role.Other
+roleOfCall None = role.Other
+
+-- a save is CALL of the helper that saves, an idle slot JA with offset 0
 abbrev pub roleBy : Kind → ℤ → ℤ → Role
-roleBy Call offset imm = cond (holds imm 1) role.Save role.Other
+roleBy Call offset imm = roleOfCall (helperOf imm)
 roleBy Jump offset imm = cond (holds offset 0) role.Idle role.Other
 roleBy Exit offset imm = role.Exit
 roleBy (Arithmetic w o s) offset imm = role.Other

@@ -1,8 +1,10 @@
 pub mod First
+pub mod Helper
 pub mod Image
 pub mod Instruction
 pub mod Lawful
 pub mod Opcode
 pub mod Refusal
 pub mod Rule
+pub mod Size
 pub mod Slot

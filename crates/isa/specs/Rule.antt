@@ -3,17 +3,17 @@
 --     mustBeZero k             the fields that a kind of instruction leaves unused
 --     zerosKept k s            those are zero
 --     framePointerKept k s     arithmetic and loads do not write r10
---     helperKnown k s          CALL names a helper that there is: 1 save, 2 next reading, 3 record
+--     helperKnown k s          CALL names a helper that there is
 --     faultOf k s i            the first of these rules that slot i breaks
 --     decoded s i              the instruction at slot i, or the first rule that it breaks, the opcode before all others
 use mathlib.Core.Bool.{Bool, true, false, cond, not, _&&_, _||_}
 use Prim.Native.Nat.{ℕ}
 use lib.Dec.{leb, eqb}
-use lib.IntN.{ℤ, pos, negsuc}
 use Rattle.std.specs.declared.option.Option.{Option}
 use Rattle.std.specs.declared.option.Option.the-variants.{Some, None}
 use Rattle.std.specs.declared.result.Result.{Result}
 use Rattle.std.specs.declared.result.Result.the-variants.{Ok, Err}
+use Rattle.std.specs.Options.{isSome}
 use Rattle.isa.specs.declared.kind.Operation.{Operation}
 use Rattle.isa.specs.declared.kind.Operation.the-variants as operation
 use Rattle.isa.specs.declared.kind.Source.{Source}
@@ -26,7 +26,7 @@ use Rattle.isa.specs.declared.instruction.Instruction.{Instruction}
 use Rattle.isa.specs.declared.refusal.Refusal.{Refusal}
 use Rattle.isa.specs.declared.refusal.Refusal.the-variants.{IllegalOpcode, NoRegister, FieldNotZero, FramePointer, NoHelper}
 use Rattle.isa.specs.Opcode.{kindOf}
-use Rattle.isa.specs.Instruction.{holds}
+use Rattle.isa.specs.Helper.{holds, helperOf}
 use Rattle.isa.specs.Refusal.{okUnless}
 
 abbrev pub isImm : Source → Bool
@@ -86,12 +86,8 @@ writesDst (StoreReg z) = false
 abbrev pub framePointerKept : Kind → Slot → Bool
 framePointerKept k s = not (writesDst k) || not (eqb (s .dst) 10)
 
-abbrev pub isHelper : ℤ → Bool
-isHelper (pos n) = leb 1 n && leb n 3
-isHelper (negsuc n) = false
-
 abbrev pub helperKnown : Kind → Slot → Bool
-helperKnown Call s = isHelper (s .imm)
+helperKnown Call s = isSome (helperOf (s .imm))
 helperKnown (Arithmetic w o x) s = true
 helperKnown (Branch w t x) s = true
 helperKnown Jump s = true

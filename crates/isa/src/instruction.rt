@@ -1,6 +1,8 @@
 // A legal instruction: where it stands, what its opcode means, and its fields.
 ghost use mathlib.Core.Path.{_≡_};
 ghost use Rattle.isa.specs.Instruction.{nextOf, targetOf, waysOut, roleOf};
+use crate::helper::Helper;
+use crate::helper::helper_of;
 use crate::kind::Kind;
 use crate::slot::Slot;
 
@@ -51,7 +53,10 @@ impl Instruction {
         ensures { λ r. ⌜ r ≡ roleOf self ⌝ }
     {
         match self.kind {
-            Kind::Call if self.fields.imm == 1 => Role::Save,
+            Kind::Call => match helper_of(self.fields.imm) {
+                Some(Helper::Save) => Role::Save,
+                _ => Role::Other,
+            },
             Kind::Jump if self.fields.offset == 0 => Role::Idle,
             Kind::Exit => Role::Exit,
             _ => Role::Other,

@@ -3,6 +3,7 @@ ghost use mathlib.Core.Path.{_≡_};
 ghost use Rattle.std.specs.Vec.{made};
 ghost use Rattle.isa.specs.Instruction.{Registered};
 ghost use Rattle.isa.specs.Rule.{mustBeZero, registersExist, zerosKept, writesDst, framePointerKept, helperKnown, faultOf, decoded};
+use crate::helper::helper_of;
 use crate::instruction::Instruction;
 use crate::kind::Kind;
 use crate::kind::Operation;
@@ -144,7 +145,7 @@ fn helper_known(kind: Kind, fields: Slot) -> bool
     ensures { λ r. ⌜ r ≡ helperKnown kind fields ⌝ }
 {
     match kind {
-        Kind::Call => 1 <= fields.imm && fields.imm <= 3,
+        Kind::Call => helper_of(fields.imm).is_some(),
         _ => true,
     }
 }

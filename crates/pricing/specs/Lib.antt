@@ -1,0 +1,5 @@
+pub mod Flat
+pub mod Helper
+pub mod Model
+pub mod Operand
+pub mod Store

@@ -1,0 +1,4 @@
+pub mod Arithmetic
+pub mod Comparison
+pub mod Memory
+pub mod Width

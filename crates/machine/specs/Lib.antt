@@ -1,0 +1,11 @@
+pub mod Effect
+pub mod Ending
+pub mod Example
+pub mod Execute
+pub mod Fetch
+pub mod Operand
+pub mod Process
+pub mod Reading
+pub mod Run
+pub mod State
+pub mod Step

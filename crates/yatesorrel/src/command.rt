@@ -1,4 +1,5 @@
 // What the command line asks for.
+use crate::run::MOST_STEPS;
 use std::env;
 use std::error::AnyError;
 
@@ -7,8 +8,12 @@ pub enum Command {
     // no argument: the guided task
     Guide,
     List { file: String },
+    Run { file: String, tape: String, steps: u64 },
     Help,
 }
+
+const LIST_USE: &str = "list takes a file: yatesorrel list ROUND";
+const RUN_USE: &str = "run takes a file, a tape and a supply: yatesorrel run ROUND TAPE mains [--steps N]";
 
 // The words after the program's name.
 fn words(rt: &LibcRuntime) -> Result<Vec<String>, AnyError> {
@@ -19,6 +24,32 @@ fn words(rt: &LibcRuntime) -> Result<Vec<String>, AnyError> {
     Ok(words)
 }
 
+fn read_list(words: &[String]) -> Result<Command, AnyError> {
+    match words {
+        [_, file] => Ok(Command::List { file: file.clone()? }),
+        _ => Err(LIST_USE.into()),
+    }
+}
+
+fn read_steps(word: &str) -> Result<u64, AnyError> {
+    match word.parse::<u64>() {
+        Ok(steps) => Ok(steps),
+        Err(_) => Err("--steps takes a number".into()),
+    }
+}
+
+fn read_run(words: &[String]) -> Result<Command, AnyError> {
+    let (file, tape, supply, steps) = match words {
+        [_, file, tape, supply] => (file, tape, supply, MOST_STEPS),
+        [_, file, tape, supply, option, number] if option.as_str() == "--steps" => (file, tape, supply, read_steps(number.as_str())?),
+        _ => return Err(RUN_USE.into()),
+    };
+    if supply.as_str() != "mains" {
+        return Err(RUN_USE.into());
+    }
+    Ok(Command::Run { file: file.clone()?, tape: tape.clone()?, steps })
+}
+
 // The command line as a command, or what is wrong with it.
 pub fn read_command(rt: &LibcRuntime) -> Result<Command, AnyError> {
     let words = words(rt)?;
@@ -26,12 +57,8 @@ pub fn read_command(rt: &LibcRuntime) -> Result<Command, AnyError> {
         return Ok(Command::Guide);
     };
     match first.as_str() {
-        "list" => match words.get(1) {
-            Some(file) if words.len() == 2 => Ok(Command::List {
-                file: file.clone()?,
-            }),
-            _ => Err("list takes one file: yatesorrel list ROUND".into()),
-        },
+        "list" => read_list(words.as_slice()),
+        "run" => read_run(words.as_slice()),
         "help" => Ok(Command::Help),
         _ => Err("there is no such command; try: yatesorrel help".into()),
     }

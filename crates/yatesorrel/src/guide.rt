@@ -1,10 +1,13 @@
 // The guided task: one real round from its bytes to a verdict.
 use crate::list::print_refusal;
 use crate::list::print_roles;
+use crate::run::MOST_STEPS;
+use crate::run::print_run;
 use crate::slots::print_slot;
 use crate::slots::print_slots;
 use crate::verdict::Verdict;
 use isa::lawful::lawful;
+use machine::run::run_for;
 use rounds::piezometer_pair::PIEZOMETER_PAIR;
 use std::io;
 
@@ -55,8 +58,19 @@ fn show_damage(rt: &LibcRuntime) -> io::Result<()> {
     print_verdict(rt, &damaged)
 }
 
+// Readings of a day on which the head across the core is low.
+const TAPE: [u32; 6] = [812, 815, 813, 590, 588, 604];
+
+fn show_run(rt: &LibcRuntime) -> io::Result<()> {
+    println!(rt, "Its run on the mains, over the readings 812 815 813 590 588 604:")?;
+    print_run(rt, &run_for(&PIEZOMETER_PAIR, &TAPE, MOST_STEPS))?;
+    println!(rt, "The middle readings are 813 and 590. The head, 223, is below 250: an alarm.")
+}
+
 pub fn guide(rt: &LibcRuntime) -> io::Result<Verdict> {
     show_round(rt)?;
+    println!(rt)?;
+    show_run(rt)?;
     println!(rt)?;
     show_damage(rt)?;
     Ok(Verdict::Passed)

@@ -20,5 +20,5 @@ if [ $# -eq 0 ]; then
     done
 else
     compile "$1"
-    od -An -v -tx1 -w8 "$1.bin" | sed 's/ \(..\)/0x\1, /g; s/ $//; s/^/    /'
+    od -An -v -tx1 -w8 "$1.bin" | sed 's/ \(..\)/\\x\1/g; s/^/     /; s/$/\\/'
 fi

@@ -42,7 +42,7 @@ impl Instruction {
         ensures { λ r. ⌜ r ≡ waysOut self ⌝ }
     {
         match self.kind {
-            Kind::Branch { .. } => (Some(self.next()), Some(self.target())),
+            Kind::Branch(..) => (Some(self.next()), Some(self.target())),
             Kind::Jump => (None, Some(self.target())),
             Kind::Exit => (None, None),
             _ => (Some(self.next()), None),

@@ -57,29 +57,15 @@ pub enum Size {
 
 #[derive(Clone, Copy)]
 pub enum Kind {
-    Arithmetic {
-        width: Width,
-        operation: Operation,
-        source: Source,
-    },
+    Arithmetic(Width, Operation, Source),
     // a conditional jump
-    Branch {
-        width: Width,
-        test: Test,
-        source: Source,
-    },
+    Branch(Width, Test, Source),
     Jump,
     Call,
     Exit,
-    Load {
-        size: Size,
-    },
+    Load(Size),
     // a store of imm
-    StoreImm {
-        size: Size,
-    },
+    StoreImm(Size),
     // a store of the register src
-    StoreReg {
-        size: Size,
-    },
+    StoreReg(Size),
 }

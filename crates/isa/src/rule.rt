@@ -2,7 +2,7 @@
 ghost use mathlib.Core.Path.{_≡_};
 ghost use Rattle.std.specs.Vec.{made};
 ghost use Rattle.isa.specs.Instruction.{Registered};
-ghost use Rattle.isa.specs.Rule.{mustBeZero, registersExist, zerosKept, writesDst, framePointerKept, helperKnown, faultOf, decoded};
+ghost use Rattle.isa.specs.Rule.{unused, mustBeZero, registersExist, zerosKept, writesDst, framePointerKept, helperKnown, faultOf, decoded};
 use crate::helper::helper_of;
 use crate::instruction::Instruction;
 use crate::kind::Kind;
@@ -21,92 +21,34 @@ struct Unused {
     imm: bool,
 }
 
+impl Unused {
+    fn new(dst: bool, src: bool, offset: bool, imm: bool) -> Self
+        ensures { λ r. ⌜ r ≡ unused dst src offset imm ⌝ }
+    {
+        Unused {
+            dst,
+            src,
+            offset,
+            imm,
+        }
+    }
+}
+
 fn must_be_zero(kind: Kind) -> Unused
     ensures { λ r. ⌜ r ≡ mustBeZero kind ⌝ }
 {
     match kind {
-        Kind::Arithmetic {
-            operation: Operation::Neg,
-            source: Source::Imm,
-            ..
-        } => Unused {
-            dst: false,
-            src: true,
-            offset: true,
-            imm: true,
-        },
-        Kind::Arithmetic {
-            source: Source::Imm,
-            ..
-        } => Unused {
-            dst: false,
-            src: true,
-            offset: true,
-            imm: false,
-        },
-        Kind::Arithmetic {
-            source: Source::Register,
-            ..
-        } => Unused {
-            dst: false,
-            src: false,
-            offset: true,
-            imm: true,
-        },
-        Kind::Branch {
-            source: Source::Imm,
-            ..
-        } => Unused {
-            dst: false,
-            src: true,
-            offset: false,
-            imm: false,
-        },
-        Kind::Branch {
-            source: Source::Register,
-            ..
-        } => Unused {
-            dst: false,
-            src: false,
-            offset: false,
-            imm: true,
-        },
-        Kind::Jump => Unused {
-            dst: true,
-            src: true,
-            offset: false,
-            imm: true,
-        },
-        Kind::Call => Unused {
-            dst: true,
-            src: true,
-            offset: true,
-            imm: false,
-        },
-        Kind::Exit => Unused {
-            dst: true,
-            src: true,
-            offset: true,
-            imm: true,
-        },
-        Kind::Load { .. } => Unused {
-            dst: false,
-            src: false,
-            offset: false,
-            imm: true,
-        },
-        Kind::StoreImm { .. } => Unused {
-            dst: false,
-            src: true,
-            offset: false,
-            imm: false,
-        },
-        Kind::StoreReg { .. } => Unused {
-            dst: false,
-            src: false,
-            offset: false,
-            imm: true,
-        },
+        Kind::Arithmetic(_, Operation::Neg, Source::Imm) => Unused::new(false, true, true, true),
+        Kind::Arithmetic(_, _, Source::Imm) => Unused::new(false, true, true, false),
+        Kind::Arithmetic(_, _, Source::Register) => Unused::new(false, false, true, true),
+        Kind::Branch(_, _, Source::Imm) => Unused::new(false, true, false, false),
+        Kind::Branch(_, _, Source::Register) => Unused::new(false, false, false, true),
+        Kind::Jump => Unused::new(true, true, false, true),
+        Kind::Call => Unused::new(true, true, true, false),
+        Kind::Exit => Unused::new(true, true, true, true),
+        Kind::Load(..) => Unused::new(false, false, false, true),
+        Kind::StoreImm(..) => Unused::new(false, true, false, false),
+        Kind::StoreReg(..) => Unused::new(false, false, false, true),
     }
 }
 
@@ -130,7 +72,7 @@ fn writes_dst(kind: Kind) -> bool
     ensures { λ r. ⌜ r ≡ writesDst kind ⌝ }
 {
     match kind {
-        Kind::Arithmetic { .. } | Kind::Load { .. } => true,
+        Kind::Arithmetic(..) | Kind::Load(..) => true,
         _ => false,
     }
 }

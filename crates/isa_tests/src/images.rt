@@ -87,5 +87,5 @@ fn ways_out_last() -> Result<(), Fail> {
 
 #[test]
 fn compiled_round() -> Result<(), Fail> {
-    check_eq(answer(&PIEZOMETER_PAIR), LAWFUL)
+    check_eq(answer(PIEZOMETER_PAIR), LAWFUL)
 }

@@ -63,19 +63,11 @@ pub impl fmt::Display for Text as TextDisplay {
         let distance = Distance(fields.offset);
         let imm = fields.imm;
         match self.0.kind {
-            Kind::Arithmetic {
-                width,
-                operation: Operation::Neg,
-                ..
-            } => {
+            Kind::Arithmetic(width, Operation::Neg, _) => {
                 let dst = self.dst(width);
                 write!(f, "{dst} = -{dst}")
             }
-            Kind::Arithmetic {
-                width,
-                operation,
-                source,
-            } => {
+            Kind::Arithmetic(width, operation, source) => {
                 let dst = self.dst(width);
                 let sign = assignment(operation);
                 let second = Second {
@@ -85,11 +77,7 @@ pub impl fmt::Display for Text as TextDisplay {
                 };
                 write!(f, "{dst} {sign} {second}")
             }
-            Kind::Branch {
-                width,
-                test,
-                source,
-            } => {
+            Kind::Branch(width, test, source) => {
                 let dst = self.dst(width);
                 let sign = comparison(test);
                 let second = Second {
@@ -102,16 +90,16 @@ pub impl fmt::Display for Text as TextDisplay {
             Kind::Jump => write!(f, "goto {distance}"),
             Kind::Call => write!(f, "call {imm}"),
             Kind::Exit => write!(f, "exit"),
-            Kind::Load { size } => {
+            Kind::Load(size) => {
                 let dst = self.dst(Width::Full64);
                 let place = self.read(size);
                 write!(f, "{dst} = {place}")
             }
-            Kind::StoreImm { size } => {
+            Kind::StoreImm(size) => {
                 let place = self.written(size);
                 write!(f, "{place} = {imm}")
             }
-            Kind::StoreReg { size } => {
+            Kind::StoreReg(size) => {
                 let place = self.written(size);
                 let src = fields.src;
                 write!(f, "{place} = r{src}")

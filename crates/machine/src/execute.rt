@@ -125,24 +125,21 @@ impl State {
         ensures { λ _. ⌜ now (self .exit) ≡ executed (now (tape .entry)) instruction (now (self .entry)) ⌝ }
     {
         match instruction.kind {
-            Kind::Arithmetic {
+            Kind::Arithmetic(width, operation, source) => self.compute(
+                instruction,
                 width,
                 operation,
                 source,
-            } => self.compute(instruction, width, operation, source),
-            Kind::Branch {
-                width,
-                test,
-                source,
-            } => self.branch(instruction, width, test, source),
+            ),
+            Kind::Branch(width, test, source) => self.branch(instruction, width, test, source),
             Kind::Jump => self.jump(instruction),
             Kind::Call => self.call(instruction, tape),
             Kind::Exit => self.end(Ending::Exit),
-            Kind::Load { size } => self.read_from(instruction, size),
-            Kind::StoreImm { size } => {
+            Kind::Load(size) => self.read_from(instruction, size),
+            Kind::StoreImm(size) => {
                 self.write_to(instruction, size, sign_extended(instruction.fields.imm))
             }
-            Kind::StoreReg { size } => {
+            Kind::StoreReg(size) => {
                 let value = self.read(instruction.fields.src);
                 self.write_to(instruction, size, value);
             }

@@ -50,24 +50,20 @@ impl State {
     {
         let fields = instruction.fields;
         match instruction.kind {
-            Kind::Arithmetic {
-                operation,
-                source,
-                ..
-            } => (
+            Kind::Arithmetic(_, operation, source) => (
                 self.read(fields.dst),
                 self.second(instruction, operation, source),
             ),
-            Kind::Branch { source, .. } => (
+            Kind::Branch(_, _, source) => (
                 self.read(fields.dst),
                 self.source_value(instruction, source),
             ),
             Kind::Call => (self.read(1), self.read(2)),
-            Kind::StoreImm { size } => (
+            Kind::StoreImm(size) => (
                 self.address(fields.dst, instruction),
                 cut_to(size, sign_extended(fields.imm)),
             ),
-            Kind::StoreReg { size } => (
+            Kind::StoreReg(size) => (
                 self.address(fields.dst, instruction),
                 cut_to(size, self.read(fields.src)),
             ),

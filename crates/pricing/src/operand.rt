@@ -51,9 +51,9 @@ fn added(opcode: u8, imm: i32, a: u64, b: u64) -> u32
     ensures { λ r. ⌜ r ≡ added (kindOf opcode) imm a b ⌝ }
 {
     match kind_of(opcode) {
-        Some(Kind::Arithmetic { operation, .. }) => dividing(operation),
+        Some(Kind::Arithmetic(_, operation, _)) => dividing(operation),
         Some(Kind::Call) => calling(helper_of(imm), a),
-        Some(Kind::StoreImm { size } | Kind::StoreReg { size }) => storing(size, b),
+        Some(Kind::StoreImm(size) | Kind::StoreReg(size)) => storing(size, b),
         _ => 0,
     }
 }
@@ -62,9 +62,9 @@ fn added_most(opcode: u8, imm: i32) -> u32
     ensures { λ r. ⌜ r ≡ addedMost (kindOf opcode) imm ⌝ }
 {
     match kind_of(opcode) {
-        Some(Kind::Arithmetic { operation, .. }) => dividing(operation),
+        Some(Kind::Arithmetic(_, operation, _)) => dividing(operation),
         Some(Kind::Call) => calling_most(helper_of(imm)),
-        Some(Kind::StoreImm { size } | Kind::StoreReg { size }) => storing_most(size),
+        Some(Kind::StoreImm(size) | Kind::StoreReg(size)) => storing_most(size),
         _ => 0,
     }
 }

@@ -7,13 +7,21 @@ use std::error::AnyError;
 pub enum Command {
     // no argument: the guided task
     Guide,
-    List { file: String },
-    Run { file: String, tape: String, steps: u64 },
+    List {
+        file: String,
+    },
+    Run {
+        file: String,
+        tape: String,
+        steps: u64,
+    },
     Help,
 }
 
 const LIST_USE: &str = "list takes a file: yatesorrel list ROUND";
-const RUN_USE: &str = "run takes a file, a tape and a supply: yatesorrel run ROUND TAPE mains [--steps N]";
+
+const RUN_USE: &str =
+    "run takes a file, a tape and a supply: yatesorrel run ROUND TAPE mains [--steps N]";
 
 // The words after the program's name.
 fn words(rt: &LibcRuntime) -> Result<Vec<String>, AnyError> {
@@ -26,7 +34,9 @@ fn words(rt: &LibcRuntime) -> Result<Vec<String>, AnyError> {
 
 fn read_list(words: &[String]) -> Result<Command, AnyError> {
     match words {
-        [_, file] => Ok(Command::List { file: file.clone()? }),
+        [_, file] => Ok(Command::List {
+            file: file.clone()?,
+        }),
         _ => Err(LIST_USE.into()),
     }
 }
@@ -41,13 +51,22 @@ fn read_steps(word: &str) -> Result<u64, AnyError> {
 fn read_run(words: &[String]) -> Result<Command, AnyError> {
     let (file, tape, supply, steps) = match words {
         [_, file, tape, supply] => (file, tape, supply, MOST_STEPS),
-        [_, file, tape, supply, option, number] if option.as_str() == "--steps" => (file, tape, supply, read_steps(number.as_str())?),
+        [_, file, tape, supply, option, number] if option.as_str() == "--steps" => (
+            file,
+            tape,
+            supply,
+            read_steps(number.as_str())?,
+        ),
         _ => return Err(RUN_USE.into()),
     };
     if supply.as_str() != "mains" {
         return Err(RUN_USE.into());
     }
-    Ok(Command::Run { file: file.clone()?, tape: tape.clone()?, steps })
+    Ok(Command::Run {
+        file: file.clone()?,
+        tape: tape.clone()?,
+        steps,
+    })
 }
 
 // The command line as a command, or what is wrong with it.

@@ -32,23 +32,23 @@ fn show_round(rt: &LibcRuntime) -> io::Result<()> {
         "A reading round of a piezometer pair, compiled from examples/piezometer_pair.c:"
     )?;
     println!(rt)?;
-    print_slots(rt, &PIEZOMETER_PAIR)?;
+    print_slots(rt, PIEZOMETER_PAIR)?;
     println!(rt)?;
     println!(
         rt,
         "Is it lawful? Every opcode, register, field and helper, and every way out:"
     )?;
-    print_verdict(rt, &PIEZOMETER_PAIR)?;
+    print_verdict(rt, PIEZOMETER_PAIR)?;
     println!(rt)?;
     println!(
         rt,
         "Where it keeps its state, and where the placer may make it do so:"
     )?;
-    print_roles(rt, &PIEZOMETER_PAIR)
+    print_roles(rt, PIEZOMETER_PAIR)
 }
 
 fn show_damage(rt: &LibcRuntime) -> io::Result<()> {
-    let mut damaged = PIEZOMETER_PAIR;
+    let mut damaged = *PIEZOMETER_PAIR;
     damaged[DAMAGED_BYTE] = DAMAGE;
     println!(
         rt,
@@ -62,9 +62,15 @@ fn show_damage(rt: &LibcRuntime) -> io::Result<()> {
 const TAPE: [u32; 6] = [812, 815, 813, 590, 588, 604];
 
 fn show_run(rt: &LibcRuntime) -> io::Result<()> {
-    println!(rt, "Its run on the mains, over the readings 812 815 813 590 588 604:")?;
-    print_run(rt, &run_for(&PIEZOMETER_PAIR, &TAPE, MOST_STEPS))?;
-    println!(rt, "The middle readings are 813 and 590. The head, 223, is below 250: an alarm.")
+    println!(
+        rt,
+        "Its run on the mains, over the readings 812 815 813 590 588 604:"
+    )?;
+    print_run(rt, &run_for(PIEZOMETER_PAIR, &TAPE, MOST_STEPS))?;
+    println!(
+        rt,
+        "The middle readings are 813 and 590. The head, 223, is below 250: an alarm."
+    )
 }
 
 pub fn guide(rt: &LibcRuntime) -> io::Result<Verdict> {

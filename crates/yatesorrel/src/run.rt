@@ -23,7 +23,11 @@ fn print_ending(rt: &LibcRuntime, ending: Option<Ending>) -> io::Result<()> {
 fn print_log(rt: &LibcRuntime, state: &State) -> io::Result<()> {
     for index in 0..state.logged() {
         if let Some(record) = state.record(index) {
-            println!(rt, "record {index} sensor {} value {}", record.sensor, record.value)?;
+            println!(
+                rt,
+                "record {index} sensor {} value {}",
+                record.sensor, record.value
+            )?;
         }
     }
     Ok(())

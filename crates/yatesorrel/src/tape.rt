@@ -14,7 +14,10 @@ pub fn read_tape(rt: &LibcRuntime, name: &str, text: &str) -> Result<Vec<u32>, A
         }
         match line.parse::<u32>() {
             Ok(reading) => tape.push(reading)?,
-            Err(e) => return Err(format!(rt.alloc(), "{name}, line {number}: {e}: a reading is 0 to 4294967295")?.into()),
+            Err(e) => return Err(format!(
+                rt.alloc(),
+                "{name}, line {number}: {e}: a reading is 0 to 4294967295"
+            )?.into()),
         }
     }
     Ok(tape)

@@ -220,10 +220,10 @@ class Machine:
                 self.ending = f"trap{trap.args[0]}"
 
     def told(self):
-        log = ";".join(f"{sensor}:{value:x}" for sensor, value in self.log) or "-"
-        memory = ",".join(f"{at}:{byte:x}" for at, byte in enumerate(self.memory) if byte) or "-"
-        regs = " ".join(f"{value:x}" for value in self.regs)
-        return f"{self.ending or 'none'} {self.steps} {self.slot} {self.place} {regs} {log} {memory}"
+        log = "".join(f";{sensor:x}:{value:x}" for sensor, value in self.log)
+        memory = "".join(f",{at:x}:{byte:x}" for at, byte in enumerate(self.memory) if byte)
+        numbers = " ".join(f"{value:x}" for value in [self.steps, self.place] + self.regs)
+        return f"{self.ending or 'none'} {self.slot} {numbers}{log}{memory}"
 
 
 # --- the vectors ------------------------------------------------------------------------------------

@@ -7,7 +7,7 @@ use isa::size::bytes_in;
 pub const MEMORY: usize = 512;
 
 // Whether an access at an address stays in memory.
-pub(crate) fn is_inside(address: u64, size: Size) -> bool
+fn is_inside(address: u64, size: Size) -> bool
     ensures { λ r. ⌜ r ≡ inside address size ⌝ }
 {
     // The sum could wrap, the difference cannot.

@@ -5,7 +5,7 @@ use mathlib.Core.Logic.{_⊎_, inl, inr, ⊎-elim}
 use Prim.Native.Nat.{ℕ, zero, suc, _≤_, _<_}
 use native.Mathlib.Omega.{arith}
 use Rattle.std.proofs.shelf.Tests.{cases-eq, cases-lt, cond-true, cond-false}
-use Rattle.machine.specs.Process.{Process, Steps, Steps.begin, Steps.plain, Steps.save, AfterSaves, AfterSaves.none, AfterSaves.left, EndsAfter, Deterministic}
+use Rattle.machine.specs.Process.{Process, Steps, Steps.begin, Steps.plain, Steps.save, AfterSaves, AfterSaves.none, AfterSaves.left, Deterministic}
 
 module _ {S : Type 0} (p : Process S) where
   -- the state after n steps, and how many of them were saves

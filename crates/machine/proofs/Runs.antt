@@ -1,7 +1,7 @@
 -- What the computed run means: its steps are steps of the process, and it stops at the ending.
-use mathlib.Core.Path.{_≡_, refl, sym, ap, subst, _∙_}
-use mathlib.Core.Bool.{Bool, true, false, cond}
-use mathlib.Core.Logic.{_⊎_, inl, inr, ⊎-elim}
+use mathlib.Core.Path.{_≡_, sym, ap, subst, _∙_}
+use mathlib.Core.Bool.{true, false}
+use mathlib.Core.Logic.{⊎-elim}
 use mathlib.Core.List.{List}
 use Prim.Native.Nat.{ℕ, zero, suc, _+_, _≤_, _<_}
 use native.Mathlib.Numerals.{add-one}
@@ -9,7 +9,7 @@ use native.Mathlib.Omega.{arith}
 use Rattle.std.proofs.shelf.Tests.{cases-bool, cases-eq, cond-true, cond-false}
 use Rattle.machine.specs.declared.state.State.{State}
 use Rattle.machine.specs.declared.run.Run.{Run}
-use Rattle.machine.specs.Process.{Process, Steps, Steps.begin, Steps.plain, Steps.save}
+use Rattle.machine.specs.Process.{Steps, Steps.begin, Steps.plain, Steps.save}
 use Rattle.machine.specs.State.{ended}
 use Rattle.machine.specs.Step.{savesAt, mainsStep}
 use Rattle.machine.specs.Run.{mains, onward, runOf, Reached}

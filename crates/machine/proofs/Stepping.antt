@@ -17,7 +17,7 @@ use Rattle.isa.specs.declared.kind.Kind.the-variants.{Arithmetic, Branch, Jump,
 use Rattle.isa.specs.declared.instruction.Instruction.{Instruction}
 use Rattle.isa.specs.declared.instruction.Role.{Role}
 use Rattle.isa.specs.declared.instruction.Role.the-variants as role
-use Rattle.isa.specs.Instruction.{nextOf, targetOf, waysBy, roleOfCall, roleBy}
+use Rattle.isa.specs.Instruction.{nextOf, targetOf, waysBy, roleOfCall, roleBy, roleOf}
 use Rattle.machine.specs.declared.ending.Ending.{Ending}
 use Rattle.machine.specs.declared.ending.Ending.the-variants as ending
 use Rattle.machine.specs.declared.ending.Trap.the-variants.{BadSlot, OutsideMemory, TapeFinished, LogFull}
@@ -27,8 +27,8 @@ use Rattle.isa.specs.declared.helper.Helper.{Helper}
 use Rattle.isa.specs.declared.helper.Helper.the-variants as helper
 use Rattle.machine.specs.declared.state.State.{State}
 use Rattle.alu.specs.Comparison.{compared}
-use Rattle.machine.specs.Effect.{effectIn}
-use Rattle.machine.specs.Execute.{wentOn, readAs, readFrom, calledBy, called, executedBy}
+use Rattle.machine.specs.Effect.{workOf, effectIn}
+use Rattle.machine.specs.Execute.{wentOn, readAs, calledBy, executedBy}
 use Rattle.machine.specs.Fetch.{fetched}
 use Rattle.isa.specs.Helper.{holds, helperOf}
 use Rattle.alu.specs.Memory.{inside, loaded}
@@ -188,6 +188,13 @@ stepped image tape σ = record {
       let is = cond-false _ _ _ (began image tape σ goes) in
       let p = stepped-follows (fetched image (σ .slot)) tape σ (ap ended (sym is) ∙ goes) in
       (p .0, p .1, subst (λ (τ : State). LeadsTo (p .0) (τ .slot)) (sym is) (p .2));
+  lacks = λ goes none. (
+    cond-false _ _ _ goes ∙ ap (λ o. stepBy o tape σ) none,
+    cond-false _ _ _ goes ∙ ap (λ o. effectAt o tape σ) none,
+  );
+  works = λ goes x here.
+      let left = cond-false _ _ _ goes ∙ ap (λ o. stepBy o tape σ) here in
+      cond-false _ _ _ goes ∙ ap (λ o. effectAt o tape σ) here ∙ ap (λ e. effectIn (roleOf x) e (workOf x σ)) (sym (ap ended left));
   saves = λ goes save. let p = saved-moves (fetched image (σ .slot)) tape σ save in (p .0, cond-false _ _ _ goes ∙ p .1);
   tells = λ goes. ap isSave (cond-false _ _ _ goes) ∙ save-told (fetched image (σ .slot)) tape σ;
 }

@@ -2,7 +2,7 @@
 --     smallRound       r1 = 7, the next reading, r2 = r0, an idle slot, a record, EXIT
 --     Known image      over the tape 5, the run of an image ends by EXIT with its sixth step, and its log is sensor 7 with value 5
 use mathlib.Core.Path.{_≡_}
-use mathlib.Core.List.{List, [], _∷_, _++_}
+use mathlib.Core.List.{List, [], _∷_}
 use Prim.Native.Nat.{ℕ}
 use Rattle.std.specs.declared.option.Option.the-variants.{Some, None}
 use Rattle.machine.specs.declared.ending.Ending.the-variants.{Exit}

@@ -4,7 +4,7 @@
 --     Reached image tape n r     the same said without computing it: r.steps steps of the run lead to r.state, n of them or,
 --                                where the run has ended, fewer
 use mathlib.Core.Path.{_≡_}
-use mathlib.Core.Bool.{Bool, true, false, cond}
+use mathlib.Core.Bool.{true, cond}
 use mathlib.Core.List.{List}
 use Prim.Native.Nat.{ℕ, zero, suc, _+_, _≤_, _<_}
 use Rattle.machine.specs.declared.state.State.{State}

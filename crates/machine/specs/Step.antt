@@ -5,7 +5,7 @@
 --     isSave e                      that was a save
 --     savesAt image σ               the instruction at the slot is a save
 --     LeadsTo x z                   slot z is a way out of an instruction
---     StepLaws image tape σ         what a step leaves as it was, where it leads, and that it tells a save
+--     StepLaws image tape σ         what a step leaves as it was, where it leads, and what it tells
 use mathlib.Core.Path.{_≡_}
 use mathlib.Core.Bool.{Bool, true, false, cond}
 use mathlib.Core.Logic.{_⊎_}
@@ -77,6 +77,12 @@ pub record StepLaws (image tape : List ℕ) (σ : State) : Type 0 where
   -- a step that does not end the run follows a way out of the instruction
   pub moves : ended (mainsStep image tape σ) ≡ false
       → (x : Instruction) × (fetched image (σ .slot) ≡ Some x) × LeadsTo x (mainsStep image tape σ .slot)
+  -- where there is no legal instruction the run ends by trap 1, and that is told
+  pub lacks : ended σ ≡ false → fetched image (σ .slot) ≡ None
+      → (mainsStep image tape σ ≡ endedBy σ (ending.Trap BadSlot)) × (mainsEffect image tape σ ≡ effect.NoInstruction)
+  -- an instruction is told with its operands, and whether it ended the run
+  pub works : ended σ ≡ false → (x : Instruction) → fetched image (σ .slot) ≡ Some x
+      → mainsEffect image tape σ ≡ effectIn (roleOf x) (ended (mainsStep image tape σ)) (workOf x σ)
   -- a save changes the slot alone, and is told
   pub saves : ended σ ≡ false → savesAt image σ ≡ true → (z : ℤ) × (mainsStep image tape σ ≡ movedTo σ z)
   pub tells : ended σ ≡ false → isSave (mainsEffect image tape σ) ≡ savesAt image σ

@@ -1,0 +1,14 @@
+pub mod Certifying
+pub mod Charging
+pub mod Clash
+pub mod Cutting
+pub mod Dropping
+pub mod Imaging
+pub mod Lists
+pub mod Ordering
+pub mod Steps
+pub mod TurnedImages
+pub mod Turning
+pub mod TwoKinds
+pub mod Walking
+pub mod Worths

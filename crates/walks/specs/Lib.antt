@@ -1,0 +1,11 @@
+pub mod Acceptance
+pub mod Certified
+pub mod Charge
+pub mod Graph
+pub mod ImageGraph
+pub mod Order
+pub mod Placing
+pub mod Reached
+pub mod TurnedImage
+pub mod Walk
+pub mod Worth

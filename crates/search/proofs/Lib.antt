@@ -1,0 +1,6 @@
+pub mod Counting
+pub mod Flooding
+pub mod Listing
+pub mod Marking
+pub mod Reaching
+pub mod Starting

@@ -3,7 +3,7 @@ use mathlib.Core.Path.{_≡_, refl, sym, ap, subst, _∙_}
 use mathlib.Core.Bool.{Bool, true, false, true≢false}
 use mathlib.Core.List.{List, [], _∷_, _++_}
 use mathlib.Core.Logic.{_⊎_, inl, inr, ⊎-elim}
-use Prim.Native.Nat.{ℕ, zero, suc, _+_, _<_, _≤_}
+use Prim.Native.Nat.{ℕ, _+_, _<_, _≤_}
 use native.Mathlib.Omega.{arith}
 use lib.Dec.{ltb}
 use lib.ListN.{length, getD, set, take, replicate, length-set, length-replicate}
@@ -17,11 +17,11 @@ use Rattle.std.proofs.shelf.Tests.{cases-eq, cases-lt, lt-ltb, le-ltb, cond-tru
 use Rattle.paths.specs.declared.node.Node.{Node}
 use Rattle.paths.specs.Net.{Net, In, Listed, tabled}
 use Rattle.search.specs.List.{pushed, nth}
-use Rattle.search.specs.Reach.{Reaches, itself, onward, Reached}
+use Rattle.search.specs.Reach.{Reaches, itself, onward, Reached, Tells}
 use Rattle.search.specs.Ways.{Split}
-use Rattle.search.specs.Flood.{isSeen, Queued, Added, Tells}
+use Rattle.search.specs.Flood.{isSeen, Queued, Added}
 use Rattle.search.proofs.Counting.{count-more, count-room}
-use Rattle.search.proofs.Listing.{pushes, old, longer, place, still-listed, last-listed}
+use Rattle.search.proofs.Listing.{throughout, pushes, old, longer, place, still-listed, last-listed}
 use Rattle.search.proofs.Reaching.{ways-below, reaches-below}
 
 pub seen-below : (seen : List Bool) (n : ℕ) → isSeen seen n → n < length seen
@@ -225,11 +225,6 @@ told nodes {starts} {seen} {queue} {p} size F end n lt = (F .from n, λ R. all (
         F .gone (L .0) t (omega arith) (subst (λ (x : ℕ). In t (tabled nodes .ways x)) (sym (L .2)) k) h
 
 -- one start alone
-all-false : (k n : ℕ) → getD (replicate k false) n false ≡ false
-all-false zero n = refl
-all-false (suc k) zero = refl
-all-false (suc k) (suc n) = all-false k n
-
 module _ (nodes : List Node) (start k : ℕ) (size : length nodes ≡ k) {starts : List Bool} (one : starts ≡ set (replicate k false) start true) where
   the-start : (n : ℕ) → isSeen starts n → n ≡ start
   the-start n s =
@@ -238,7 +233,7 @@ module _ (nodes : List Node) (start k : ℕ) (size : length nodes ≡ k) {starts
       (λ (ne : n ≡ start → ⊥).
       let a = ap (λ (xs : List Bool). getD xs n false) one in
       let b = getD-set-other (replicate k false) start n true false ne in
-      absurd (true≢false (sym s ∙ a ∙ b ∙ all-false k n)))
+      absurd (true≢false (sym s ∙ a ∙ b ∙ throughout k n false)))
       (cases-eq n start)
 
   pub reached-reaches : (n : ℕ) → Reached (tabled nodes) starts n → Reaches (tabled nodes) start n

@@ -1,15 +1,20 @@
--- A list of nodes with one more at its end.
+-- A list of one element throughout, and a list of nodes with one more at its end.
 use mathlib.Core.Path.{_≡_, refl, sym, ap, _∙_}
 use mathlib.Core.List.{List, [], _∷_, _++_}
 use mathlib.Core.Logic.{_⊎_, inl, inr, ⊎-elim}
-use Prim.Native.Nat.{ℕ, _+_, _<_, _≤_, min}
+use Prim.Native.Nat.{ℕ, zero, suc, _+_, _<_, _≤_, min}
 use native.Mathlib.Omega.{arith}
 use lib.Dec.{ltb}
-use lib.ListN.{length, getD, set, take}
+use lib.ListN.{length, getD, set, take, replicate}
 use Rattle.std.proofs.shelf.Lists.{length-take, take-all, take-more-set, getD-append-left, getD-push, length-push}
 use Rattle.std.proofs.shelf.Tests.{cases-eq, cases-lt, lt-ltb, le-ltb, cond-true, cond-false}
 use Rattle.paths.specs.Net.{Listed}
 use Rattle.search.specs.List.{pushed}
+
+pub throughout : {X : Type 0} (k n : ℕ) (y : X) → getD (replicate k y) n y ≡ y
+throughout zero n y = refl
+throughout (suc k) zero y = refl
+throughout (suc k) (suc n) y = throughout k n y
 
 pub pushes : (ns : List ℕ) (n : ℕ) → length ns < 1024 → pushed ns n ≡ ns ++ n ∷ []
 pushes ns n room = cond-true (ltb (length ns) 1024) (ns ++ n ∷ []) ns (lt-ltb (length ns) 1024 room)

@@ -46,7 +46,7 @@ wrote marks u y n h =
 
 -- a New node, opened
 module _ {g : Net} {marks : List Mark} {order : List ℕ} {u depth : ℕ} (E : Enters g marks order (Some u) depth) (new : markAt marks u ≡ New) where
-  pub below : u < length marks
+  below : u < length marks
   below = let a = E .inside u refl in let c = E .sound .sized in omega arith
 
   fewer : news (set marks u Open) + 1 ≡ news marks
@@ -76,13 +76,13 @@ module _ {g : Net} {marks : List Mark} {order : List ℕ} {u depth : ℕ} (E : E
         ];
       }
 
-  pub opened-enters : (way : Option ℕ) → ((t : ℕ) → way ≡ Some t → In t (g .ways u) × (t < 1024)) → Enters g (set marks u Open) order way (depth - 1)
+  opened-enters : (way : Option ℕ) → ((t : ℕ) → way ≡ Some t → In t (g .ways u) × (t < 1024)) → Enters g (set marks u Open) order way (depth - 1)
   opened-enters way steps = record {
     sound = opened;
     deep = let a = fewer in let b = E .deep in omega arith;
     inside = λ t e. steps t e .1;
     stack = λ t e n h. elim (wrote marks u Open n below) [
-      | here is k ↦ record { m = u; reaches = subst (λ (x : ℕ). Reaches g x u) (sym is) itself; last = steps t e .0 }
+      | here is k ↦ record { before = u; reaches = subst (λ (x : ℕ). Reaches g x u) (sym is) itself; last = steps t e .0 }
       | there ne k ↦ leads-on g n u t (E .stack u refl n (sym k ∙ h)) (steps t e .0)
     ];
   }
@@ -93,7 +93,7 @@ pub open-loop : {g : Net} {marks : List Mark} {order : List ℕ} {way : Option �
 open-loop {t = t} E e is = record { n = t; ahead = record { to = t; taken = e; reaches = itself }; on-loop = E .stack t e t is }
 
 -- a visit leaves the next one ready
-pub visited-enters : (g : Net) (marks marks′ : List Mark) (order order′ : List ℕ) (way way′ : Option ℕ) (depth : ℕ)
+visited-enters : (g : Net) (marks marks′ : List Mark) (order order′ : List ℕ) (way way′ : Option ℕ) (depth : ℕ)
     → Enters g marks order way depth → Visited g marks marks′ order′ way′ → Enters g marks′ order′ way depth
 visited-enters g marks marks′ order order′ way way′ depth E V = record {
   sound = V .sound;
@@ -107,7 +107,7 @@ visited-enters g marks marks′ order order′ way way′ depth E V = record {
   stack = λ t e n h. E .stack t e n (V .grow .was-open n h);
 }
 
-pub grow-trans : (a b c : List Mark) → Grow a b → Grow b c → Grow a c
+grow-trans : (a b c : List Mark) → Grow a b → Grow b c → Grow a c
 grow-trans a b c G H = record {
   was-open = λ n h. G .was-open n (H .was-open n h);
   was-new = λ n h. G .was-new n (H .was-new n h);

@@ -17,7 +17,7 @@ module _ (g : Net) where
   step-first n t u s (onward {m} r k) = onward (step-first n t m s r) k
 
   pub leads-on : (n t u : ℕ) → Leads g n t → In u (g .ways t) → Leads g n u
-  leads-on n t u l s = record { m = t; reaches = onward (l .reaches) (l .last); last = s }
+  leads-on n t u l s = record { before = t; reaches = onward (l .reaches) (l .last); last = s }
 
 -- past a table, nodes have no successors
 pub ways-below : (nodes : List Node) (n t : ℕ) → In t (tabled nodes .ways n) → n < length nodes
@@ -35,4 +35,4 @@ reaches-below nodes n t itself h = h
 reaches-below nodes n t (onward {m} r s) h = reaches-below nodes n m r (ways-below nodes m t s)
 
 pub loop-below : (nodes : List Node) (n : ℕ) → OnLoop (tabled nodes) n → n < length nodes
-loop-below nodes n l = reaches-below nodes n (l .m) (l .reaches) (ways-below nodes (l .m) n (l .last))
+loop-below nodes n l = reaches-below nodes n (l .before) (l .reaches) (ways-below nodes (l .before) n (l .last))

@@ -18,6 +18,7 @@ use Rattle.search.specs.Reach.{Reaches, itself, onward, OnLoop, Reached}
 use Rattle.search.specs.Visit.{markAt, isNew, isDone, Sound, Enters}
 use Rattle.search.specs.Order.{After, Sorted}
 use Rattle.search.proofs.Counting.{count-none}
+use Rattle.search.proofs.Listing.{throughout}
 use Rattle.search.proofs.Marking.{clash}
 use Rattle.search.proofs.Reaching.{ways-below, loop-below}
 
@@ -27,11 +28,6 @@ pub record Started (g : Net) (starts : List Bool) (marks : List Mark) (order : L
   pub none-open : (n : ℕ) → markAt marks n ≡ Open → ⊥
   pub all : (n : ℕ) → n < i → getD starts n false ≡ true → markAt marks n ≡ Done
   pub from : (n : ℕ) → markAt marks n ≡ Done → Reached g starts n
-
-all-new : (k n : ℕ) → markAt (replicate k New) n ≡ New
-all-new zero n = refl
-all-new (suc k) zero = refl
-all-new (suc k) (suc n) = all-new k n
 
 -- nothing is visited yet
 pub started : {g : Net} {starts : List Bool} {order : List ℕ} → order ≡ [] → Started g starts (replicate 1024 New) order 0
@@ -48,11 +44,11 @@ started {g} {starts} {order} empty = go 1024 refl
         after = λ p t h s lt. absurd (omega (arith, none));
         once = λ p q l h e. absurd (omega (arith, none));
         listed = λ p h. absurd (omega (arith, none));
-        found = λ n d. let a = all-new k n in let z : _≡_ {A = ℕ} 0 1 = cc in clash z;
+        found = λ n d. let a = throughout k n New in let z : _≡_ {A = ℕ} 0 1 = cc in clash z;
       };
-      none-open = λ n d. let a = all-new k n in let z : _≡_ {A = ℕ} 0 1 = cc in clash z;
+      none-open = λ n d. let a = throughout k n New in let z : _≡_ {A = ℕ} 0 1 = cc in clash z;
       all = λ n l w. absurd (omega arith);
-      from = λ n d. let a = all-new k n in let z : _≡_ {A = ℕ} 0 1 = cc in clash z;
+      from = λ n d. let a = throughout k n New in let z : _≡_ {A = ℕ} 0 1 = cc in clash z;
     }
 
 module _ {g : Net} {starts : List Bool} {marks : List Mark} {order : List ℕ} {i : ℕ} (S : Started g starts marks order i) where
@@ -79,8 +75,8 @@ module _ (nodes : List Node) (size : length nodes ≡ 1024) (order : List ℕ) (
   off-loop : (k p n : ℕ) → p < k → p < length order → getD order p 0 ≡ n → OnLoop (tabled nodes) n → ⊥
   off-loop zero p n lt h is l = omega arith
   off-loop (suc k) p n lt h is l =
-      let a = ways-below nodes (l .m) n (l .last) in
-      let L = earlier p n (l .m) h is (l .reaches) (omega arith) in
+      let a = ways-below nodes (l .before) n (l .last) in
+      let L = earlier p n (l .before) h is (l .reaches) (omega arith) in
       let b = L .1 in
       let K = after (L .0) n (omega arith) (subst (λ (x : ℕ). In n (tabled nodes .ways x)) (sym (L .2)) (l .last)) (omega (arith, loop-below nodes n l)) in
       let c = K .1 in

@@ -3,9 +3,8 @@
 --     isSeen seen n         n has been seen; no node past the end has
 --     Queued seen queue     a queue holds the nodes seen, each once
 --     Added seen seen′ queue queue′ way    a node, or none, was seen and queued
---     Tells table P         a table has true at the nodes below 1,024 of which P holds, and at no others
 use mathlib.Core.Path.{_≡_}
-use mathlib.Core.Logic.{_⊎_, _↔_}
+use mathlib.Core.Logic.{_⊎_}
 use mathlib.Core.List.{List}
 use mathlib.Core.Bool.{Bool, true, false}
 use Prim.Native.Nat.{ℕ, _<_, _≤_}
@@ -31,6 +30,3 @@ pub record Added (seen seen′ : List Bool) (queue queue′ : List ℕ) (way : O
   pub there : (t : ℕ) → way ≡ Some t → isSeen seen′ t
   pub longer : length queue ≤ length queue′
   pub kept : (p : ℕ) → p < length queue → getD queue′ p 0 ≡ getD queue p 0
-
-abbrev pub Tells : List Bool → (ℕ → Type 0) → Type 0
-Tells table P = (n : ℕ) → n < 1024 → (getD table n false ≡ true) ↔ P n

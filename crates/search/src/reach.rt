@@ -6,8 +6,8 @@ ghost use lib.ListN.{set, replicate};
 ghost use Rattle.std.specs.declared.option.Option.the-variants.{Some};
 ghost use Rattle.paths.specs.Net.{tabled};
 ghost use Rattle.search.specs.List.{listOf};
-ghost use Rattle.search.specs.Reach.{Reaches, Reached};
-ghost use Rattle.search.specs.Flood.{Queued, Added, Tells};
+ghost use Rattle.search.specs.Reach.{Reaches, Reached, Tells};
+ghost use Rattle.search.specs.Flood.{Queued, Added};
 use crate::NODES;
 use crate::list::NodeList;
 use crate::ways::ways_within;
@@ -20,6 +20,7 @@ struct Flood {
     queue: NodeList,
 }
 
+// Queues every start.
 fn queue_of(starts: &[bool; 1024]) -> NodeList
     ensures { λ r. ⌜ Queued (now (starts .entry)) (listOf r) ⌝ }
 {
@@ -32,6 +33,7 @@ fn queue_of(starts: &[bool; 1024]) -> NodeList
     queue
 }
 
+// Sees a node and queues it, unless it has been seen.
 fn add(flood: &mut Flood, way: Option<u16>)
     requires queued { ⌜ Queued (now flood .seen) (listOf (now flood .queue)) ⌝ }
     requires inside { ⌜ ((t : ℕ) → way ≡ Some t → t < 1024) ⌝ }
@@ -73,6 +75,7 @@ pub fn reach(nodes: &[Node; 1024], starts: &[bool; 1024]) -> [bool; 1024]
     flood.seen
 }
 
+// A table with one start, or none where that is past its end.
 fn only(start: u16) -> [bool; 1024]
     ensures { λ r. ⌜ r ≡ set (replicate 1024 false) start true ⌝ }
 {

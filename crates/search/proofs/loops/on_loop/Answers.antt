@@ -9,6 +9,6 @@ pub returns : need.returns
 returns c = (
   λ e. absurd (true≢false (sym e)),
   λ l.
-      let h : l .m < 1024 = omega (arith, ways-below (c .args .nodes .now) (l .m) (c .args .node) (l .last)) in
-      absurd (c .loop-at .inv (l .m) (omega arith) (c .reach-from-seen .ensures (l .m) h .1 (l .reaches)) (l .last)),
+      let h : l .before < 1024 = omega (arith, ways-below (c .args .nodes .now) (l .before) (c .args .node) (l .last)) in
+      absurd (c .loop-at .inv (l .before) (omega arith) (c .reach-from-seen .ensures (l .before) h .1 (l .reaches)) (l .last)),
 )

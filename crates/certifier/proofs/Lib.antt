@@ -1,0 +1,12 @@
+pub mod Admitting
+pub mod Certifying
+pub mod Clash
+pub mod Clearing
+pub mod Describing
+pub mod Filling
+pub mod Judging
+pub mod Leaving
+pub mod Ordered
+pub mod Rounds
+pub mod Searching
+pub mod Tabling

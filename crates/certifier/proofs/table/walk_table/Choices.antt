@@ -1,0 +1,6 @@
+use Rattle.isa.specs.Image.{instructionAt}
+use Rattle.certifier.specs.Table.{noNode, walkNode, Tabled}
+use Rattle.certifier.proofs.table.walk_table.Given as given
+
+abbrev pub Inv-loop-at : given.InvT-loop-at
+Inv-loop-at g l = Tabled noNode (l .nodes) (λ i. walkNode (g .M·PriceModel .means (l .model)) i (instructionAt (l .image) i)) (l .at)

@@ -1,0 +1,6 @@
+pub mod Certify
+pub mod Clear
+pub mod Example
+pub mod Judge
+pub mod Priced
+pub mod Table

@@ -10,6 +10,12 @@ pub enum Command {
     List {
         file: String,
     },
+    Certify {
+        file: String,
+        budget: u64,
+        // none: the operand model
+        prices: Option<String>,
+    },
     Run {
         file: String,
         tape: String,
@@ -17,6 +23,9 @@ pub enum Command {
     },
     Help,
 }
+
+const CERTIFY_USE: &str =
+    "certify takes a file and a budget: yatesorrel certify ROUND BUDGET [--prices FILE]";
 
 const LIST_USE: &str = "list takes a file: yatesorrel list ROUND";
 
@@ -41,11 +50,29 @@ fn read_list(words: &[String]) -> Result<Command, AnyError> {
     }
 }
 
-fn read_steps(word: &str) -> Result<u64, AnyError> {
+fn read_number(word: &str, wrong: &str) -> Result<u64, AnyError> {
     match word.parse::<u64>() {
-        Ok(steps) => Ok(steps),
-        Err(_) => Err("--steps takes a number".into()),
+        Ok(number) => Ok(number),
+        Err(_) => Err(wrong.into()),
     }
+}
+
+fn read_certify(words: &[String]) -> Result<Command, AnyError> {
+    let (file, budget, prices) = match words {
+        [_, file, budget] => (file, budget, None),
+        [_, file, budget, option, prices] if option.as_str() == "--prices" => (
+            file,
+            budget,
+            Some(prices.clone()?),
+        ),
+        _ => return Err(CERTIFY_USE.into()),
+    };
+    let budget = read_number(budget.as_str(), "a budget is a number, 1 to 100000000")?;
+    Ok(Command::Certify {
+        file: file.clone()?,
+        budget,
+        prices,
+    })
 }
 
 fn read_run(words: &[String]) -> Result<Command, AnyError> {
@@ -55,7 +82,7 @@ fn read_run(words: &[String]) -> Result<Command, AnyError> {
             file,
             tape,
             supply,
-            read_steps(number.as_str())?,
+            read_number(number.as_str(), "--steps takes a number")?,
         ),
         _ => return Err(RUN_USE.into()),
     };
@@ -77,6 +104,7 @@ pub fn read_command(rt: &LibcRuntime) -> Result<Command, AnyError> {
     };
     match first.as_str() {
         "list" => read_list(words.as_slice()),
+        "certify" => read_certify(words.as_slice()),
         "run" => read_run(words.as_slice()),
         "help" => Ok(Command::Help),
         _ => Err("there is no such command; try: yatesorrel help".into()),

@@ -1,4 +1,5 @@
 // The guided task: one real round from its bytes to a verdict.
+use crate::certify::certify_round;
 use crate::list::print_refusal;
 use crate::list::print_roles;
 use crate::run::MOST_STEPS;
@@ -8,6 +9,8 @@ use crate::slots::print_slots;
 use crate::verdict::Verdict;
 use isa::lawful::lawful;
 use machine::run::run_for;
+use pricing::operand::OperandModel;
+use pricing::operand::OperandPrices;
 use rounds::piezometer_pair::PIEZOMETER_PAIR;
 use std::io;
 
@@ -73,11 +76,30 @@ fn show_run(rt: &LibcRuntime) -> io::Result<()> {
     )
 }
 
+// A budget that the round misses, and one that it meets.
+const LITTLE: u64 = 400;
+
+const ENOUGH: u64 = 500;
+
+fn show_certifying(rt: &LibcRuntime) -> io::Result<()> {
+    println!(
+        rt,
+        "Does every stretch between saves fit one charge of {LITTLE} units?"
+    )?;
+    let _ = certify_round(rt, PIEZOMETER_PAIR, &OperandModel, LITTLE)?;
+    println!(rt)?;
+    println!(rt, "And of {ENOUGH}?")?;
+    let _ = certify_round(rt, PIEZOMETER_PAIR, &OperandModel, ENOUGH)?;
+    Ok(())
+}
+
 pub fn guide(rt: &LibcRuntime) -> io::Result<Verdict> {
     show_round(rt)?;
     println!(rt)?;
     show_run(rt)?;
     println!(rt)?;
     show_damage(rt)?;
+    println!(rt)?;
+    show_certifying(rt)?;
     Ok(Verdict::Passed)
 }

@@ -6,13 +6,17 @@ const HELP: &str = "yatesorrel checks a logger's reading round before it goes un
 
   yatesorrel              a guided task on a built-in round
   yatesorrel list ROUND   lists an image, and says whether it is lawful
+  yatesorrel certify ROUND BUDGET [--prices FILE]
+                          says whether every stretch fits one charge of BUDGET
   yatesorrel run ROUND TAPE mains [--steps N]
                           runs an image over a tape, at most N steps (1000000)
   yatesorrel help         prints this
 
 ROUND is a file of raw slots, as llvm-objcopy -O binary --only-section=.text
 leaves them of an object that clang -target bpf made. TAPE is text, a reading
-a line. A refusal, a bad file and a bad command end with status 1.";
+a line. FILE has a price a line, as 0x85 12, for each of the 256 opcode bytes,
+and save 20 for a saving; without it the operand model says the prices.
+A refusal, a bad file and a bad command end with status 1.";
 
 pub fn print_help(rt: &LibcRuntime) -> io::Result<Verdict> {
     println!(rt, "{HELP}")?;

@@ -1,18 +1,26 @@
 // Yatesorrel checks a logger's reading round before it goes under grout.
+mod certify;
 mod command;
 mod guide;
 mod help;
 mod list;
+mod prices;
 mod run;
 mod slots;
 mod tape;
 mod verdict;
+mod walk;
 
+use certify::certify_round;
 use command::Command;
 use command::read_command;
 use guide::guide;
 use help::print_help;
 use list::list;
+use prices::read_prices;
+use pricing::flat::FlatPrices;
+use pricing::operand::OperandModel;
+use pricing::operand::OperandPrices;
 use run::run as run_round;
 use std::error::AnyError;
 use std::fs;
@@ -33,12 +41,36 @@ fn read_text(rt: &LibcRuntime, file: &str) -> Result<String, AnyError> {
     }
 }
 
+fn certify_file(
+    rt: &LibcRuntime,
+    image: &[u8],
+    budget: u64,
+    prices: Option<String>,
+) -> Result<Verdict, AnyError> {
+    match prices {
+        None => Ok(certify_round(rt, image, &OperandModel, budget)?),
+        Some(file) => {
+            let text = read_text(rt, file.as_str())?;
+            let model = read_prices(rt, file.as_str(), text.as_str())?;
+            Ok(certify_round(rt, image, &model, budget)?)
+        }
+    }
+}
+
 fn obey(rt: &LibcRuntime) -> Result<Verdict, AnyError> {
     match read_command(rt)? {
         Command::Guide => Ok(guide(rt)?),
         Command::List { file } => {
             let image = read_image(rt, file.as_str())?;
             Ok(list(rt, image.as_slice())?)
+        }
+        Command::Certify {
+            file,
+            budget,
+            prices,
+        } => {
+            let image = read_image(rt, file.as_str())?;
+            certify_file(rt, image.as_slice(), budget, prices)
         }
         Command::Run { file, tape, steps } => {
             let image = read_image(rt, file.as_str())?;

@@ -89,7 +89,7 @@ fn lowest_loop(nodes: &[Node; 1024], starts: &[bool; 1024]) -> u16
 // Refuses by the lowest slot that some walk holds twice, else by the lowest
 // start over budget. Without a loop it leaves the worths of the slots in the
 // list.
-pub fn judge<V: Priced, M: PriceModel>(
+pub(crate) fn judge<V: Priced, M: PriceModel>(
     image: &[u8],
     model: &M,
     budget: u64,

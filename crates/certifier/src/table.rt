@@ -118,7 +118,7 @@ const NO_NODE: Node = Node {
 };
 
 // The slots with all their ways out, at no price.
-pub fn way_table(image: &[u8]) -> [Node; 1024]
+pub(crate) fn way_table(image: &[u8]) -> [Node; 1024]
     ensures { λ r. ⌜ Tabled noNode r (λ i. wayNode i (instructionAt (now (image .entry)) i)) 1024 ⌝ }
 {
     let mut nodes = [NO_NODE; 1024];
@@ -129,7 +129,7 @@ pub fn way_table(image: &[u8]) -> [Node; 1024]
 }
 
 // The slots with the ways out that a walk may go on by, and their prices.
-pub fn walk_table<M: PriceModel>(image: &[u8], model: &M) -> [Node; 1024]
+pub(crate) fn walk_table<M: PriceModel>(image: &[u8], model: &M) -> [Node; 1024]
     ensures { λ r. ⌜ Tabled noNode r (λ i. walkNode (M·PriceModel .means (now (model .entry))) i (instructionAt (now (image .entry)) i)) 1024 ⌝ }
 {
     let mut nodes = [NO_NODE; 1024];
@@ -167,7 +167,7 @@ fn is_start(image: &[u8], reached: &[bool; 1024], at: u16) -> bool
 }
 
 // Slot 0, and the slot after each save that is reached.
-pub fn start_table(image: &[u8], reached: &[bool; 1024]) -> [bool; 1024]
+pub(crate) fn start_table(image: &[u8], reached: &[bool; 1024]) -> [bool; 1024]
     ensures { λ r. ⌜ Tabled false r (startedBy (now (image .entry)) (now (reached .entry))) 1024 ⌝ }
 {
     let mut starts = [false; 1024];

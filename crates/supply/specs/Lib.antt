@@ -1,0 +1,4 @@
+pub mod Capacitor
+pub mod Mains
+pub mod Ratings
+pub mod Supply

@@ -26,7 +26,7 @@ use Rattle.isa.specs.Refusal.{toldOf, okUnless}
 use Rattle.isa.specs.Lawful.{faultIn, faultAt, leavingIn, leavingAt, lawfulness, Breaks, length-bad, slot-bad, way-bad}
 use Rattle.isa.proofs.Judging.{judging}
 use Rattle.certifier.specs.Certify.{withinLimits, admission, InOrder}
-use Rattle.certifier.proofs.Clash.{clash}
+use Rattle.walks.proofs.Clash.{clash}
 
 -- a refusal by what the walks of an image do: 9 or 10
 abbrev pub ofWalks : Refusal → Bool

@@ -3,7 +3,7 @@ use mathlib.Core.Path.{_≡_, refl, sym, ap, subst⁻¹, _∙_}
 use mathlib.Core.Logic.{_↔_}
 use mathlib.Core.Bool.{true, false, true≢false}
 use mathlib.Core.List.{List}
-use Prim.Native.Nat.{ℕ}
+use Prim.Native.Nat.{ℕ, _*_}
 use Rattle.std.specs.declared.result.Result.{Result}
 use Rattle.std.specs.declared.result.Result.the-variants.{Ok, Err}
 use Rattle.isa.specs.declared.refusal.Refusal.{Refusal}
@@ -24,7 +24,7 @@ use Rattle.certifier.specs.Certify.{resultOf, andThen, admission, certificatio
 use Rattle.certifier.specs.Judge.{Judged}
 use Rattle.certifier.specs.Priced.{priceOfPrice, priceOfWorth}
 use Rattle.certifier.proofs.Admitting.{ofWalks, admitted, not-of-walks}
-use Rattle.certifier.proofs.Clash.{clash}
+use Rattle.walks.proofs.Clash.{clash}
 use Rattle.certifier.proofs.Judging.{judged-means}
 
 result-one : (a b : Answer) → resultOf a ≡ resultOf b → a ≡ b
@@ -64,12 +64,12 @@ module _ (m : Model) (image : List ℕ) (budget room : ℕ) where
     module _ (bounded : Bounded m) (r : Result (Unit {0}) Refusal) where
       pub at-worths : (old new : List Worth) → Judged worthKind priceOfWorth g budget old new r → r ≡ certification m image budget room
       at-worths old new judged =
-          let q = judged-means worthKind priceOfWorth g sound 131070 (lawful-small m bounded image (order .lawful)) (λ u. worth-right g sound u .worths) budget old new r judged in
+          let q = judged-means worthKind priceOfWorth g sound (2 * 65535) (lawful-small m bounded image (order .lawful)) (λ u. worth-right g sound u .worths) budget old new r judged in
           q .2 ∙ at-walks (q .0) (q .1)
 
       pub at-prices : (old new : List Price) → Judged priceKind priceOfPrice g budget old new r → r ≡ certification m image budget room
       at-prices old new judged =
-          let q = judged-means priceKind priceOfPrice g sound 131070 (lawful-small m bounded image (order .lawful)) (λ u. worth-right g sound u .prices) budget old new r judged in
+          let q = judged-means priceKind priceOfPrice g sound (2 * 65535) (lawful-small m bounded image (order .lawful)) (λ u. worth-right g sound u .prices) budget old new r judged in
           q .2 ∙ at-walks (q .0) (q .1)
 
   -- the answers about walks are given exactly when all is in order and they say what is so

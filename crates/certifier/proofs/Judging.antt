@@ -25,7 +25,7 @@ use Rattle.walks.proofs.Walking.{reach-below, start-reached}
 use Rattle.search.specs.Reach.{Tells}
 use Rattle.certifier.specs.Certify.{resultOf}
 use Rattle.certifier.specs.Judge.{WorthsLeft, overAt, DearStart, Judged, looping, dear, paid}
-use Rattle.certifier.proofs.Clash.{clash}
+use Rattle.walks.proofs.Clash.{clash}
 
 over-none : (b : Bool) (r : Refusal) → cond b (Some r) None ≡ None → b ≡ true → ⊥
 over-none true r e t = clash (cc)

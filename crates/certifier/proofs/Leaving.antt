@@ -15,7 +15,7 @@ use Rattle.certifier.specs.Certify.{Left}
 use Rattle.certifier.specs.Judge.{Judged, looping, dear, paid}
 use Rattle.certifier.specs.Priced.{priceOfWorth}
 use Rattle.certifier.proofs.Admitting.{ofWalks}
-use Rattle.certifier.proofs.Clash.{clash}
+use Rattle.walks.proofs.Clash.{clash}
 
 -- a refusal before the walks leaves it as it was
 pub left-refused : (g : Graph) (old : List Worth) (r : Refusal) → ofWalks r ≡ false → Left g old old (Err r)

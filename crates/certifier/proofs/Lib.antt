@@ -1,12 +1,10 @@
 pub mod Admitting
 pub mod Certifying
-pub mod Clash
+pub mod Charging
 pub mod Clearing
-pub mod Describing
 pub mod Filling
 pub mod Judging
 pub mod Leaving
 pub mod Ordered
 pub mod Rounds
 pub mod Searching
-pub mod Tabling

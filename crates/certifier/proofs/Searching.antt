@@ -20,7 +20,7 @@ use Rattle.walks.proofs.Ordering.{loop-right}
 use Rattle.search.specs.Reach.{Reaches, itself, onward as further, Reached, Leads as LeadsIn, Looped as LoopedIn, Tells}
 use Rattle.search.specs.Order.{Sorted}
 use Rattle.search.specs.Loops.{Least}
-use Rattle.certifier.specs.Table.{noNode}
+use Rattle.tables.specs.Node.{noNode}
 
 module _ (g : Graph) (sound : Sound g) (small : g .size ≤ 1024) (nodes : List Node) (sized : length nodes ≡ 1024)
     (described : (n : ℕ) → n < 1024 → Described nodes (netOf g) n) where

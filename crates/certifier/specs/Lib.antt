@@ -3,4 +3,3 @@ pub mod Clear
 pub mod Example
 pub mod Judge
 pub mod Priced
-pub mod Table

@@ -5,19 +5,13 @@ ghost use lib.ListN.{length, getD};
 ghost use Rattle.isa.specs.First.{firstBelow};
 ghost use Rattle.isa.specs.Refusal.{okUnless};
 ghost use Rattle.isa.specs.Lawful.{Lawful};
-ghost use Rattle.pricing.specs.Model.{Model};
-ghost use Rattle.paths.specs.Net.{tabled, Described};
-ghost use Rattle.walks.specs.Graph.{netOf};
-ghost use Rattle.walks.specs.Walk.{Start};
+ghost use Rattle.paths.specs.Net.{tabled};
 ghost use Rattle.walks.specs.ImageGraph.{graphOf};
-ghost use Rattle.search.specs.Reach.{Looped, Tells};
+ghost use Rattle.search.specs.Reach.{Looped};
 ghost use Rattle.search.specs.Loops.{Least};
 ghost use Rattle.certifier.specs.Judge.{overBy, overAt, Judged};
 use crate::clear::clear;
 use crate::priced::Priced;
-use crate::table::start_table;
-use crate::table::walk_table;
-use crate::table::way_table;
 use isa::refusal::Refusal;
 use paths::fill::fill;
 use paths::node::Node;
@@ -25,26 +19,8 @@ use pricing::model::PriceModel;
 use search::loops::lowest_looped;
 use search::order::Outcome;
 use search::order::find_order;
-use search::reach::reach_from;
-
-// The slots that walks start from.
-fn starts_of(image: &[u8]) -> [bool; 1024]
-    requires { ⌜ Lawful (now image) ⌝ }
-    ensures size { λ r. ⌜ length r ≡ 1024 ⌝ }
-    ensures told { λ r. ⌜ ((m : Model) → Tells r (Start (graphOf m (now (image .entry))))) ⌝ }
-{
-    let reached = reach_from(&way_table(image), 0);
-    start_table(image, &reached)
-}
-
-// The slots as walks go along them.
-fn walks_of<M: PriceModel>(image: &[u8], model: &M) -> [Node; 1024]
-    requires { ⌜ Lawful (now image) ⌝ }
-    ensures size { λ r. ⌜ length r ≡ 1024 ⌝ }
-    ensures described { λ r. ⌜ ((n : ℕ) → n < 1024 → Described r (netOf (graphOf (M·PriceModel .means (now (model .entry))) (now (image .entry)))) n) ⌝ }
-{
-    walk_table(image, model)
-}
+use tables::start::starts_of;
+use tables::walk::walk_table;
 
 fn price_at<V: Priced>(worths: &[V], at: u16) -> u64
     requires { ⌜ at < length (now worths) ⌝ }
@@ -100,7 +76,7 @@ pub(crate) fn judge<V: Priced, M: PriceModel>(
     ensures { λ r. ⌜ Judged (V·PathValue .kind) (V·Priced .price) (graphOf (M·PriceModel .means (now (model .entry))) (now (image .entry))) budget (now (worths .entry)) (now (worths .exit)) r ⌝ }
 {
     let starts = starts_of(image);
-    let nodes = walks_of(image, model);
+    let nodes = walk_table(image, model);
     match find_order(&nodes, &starts) {
         Outcome::Looping => Err(Refusal::Loop {
             slot: lowest_loop(&nodes, &starts),

@@ -4,4 +4,3 @@ mod clear;
 pub mod example;
 mod judge;
 mod priced;
-mod table;

@@ -4,7 +4,7 @@ use Rattle.certifier.proofs.clear.clear.Needs as need
 
 pub loop-at-again : need.loop-at-again
 loop-at-again g c =
-    cleared-more (g .V·PathValue .kind) (c .args .worths .now) (c .loop-at .worths) (c .loop-at .at) (c .empty .result) (omega arith) (c .empty .ensures) (c .loop-at .inv)
+    cleared-more (g .V·PathValue .kind) (c .args .worths .now) (c .loop-at .worths) (c .loop-at .at) (c .clear-at .last .worths) (omega arith) (c .clear-at .ensures) (c .loop-at .inv)
 
 pub returns : need.returns
 returns g c =

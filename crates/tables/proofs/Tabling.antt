@@ -7,7 +7,7 @@ use native.Mathlib.Omega.{arith}
 use lib.ListN.{length, getD, set, length-set}
 use lib.Seq.{getD-set-same, getD-set-other}
 use Rattle.std.proofs.shelf.Tests.{cases-eq}
-use Rattle.certifier.specs.Table.{Tabled}
+use Rattle.tables.specs.Node.{Tabled}
 
 pub table-put : {A : Type 0} (d : A) (xs : List A) (f : ℕ → A) (i : ℕ) (v : A) → i < 1024 → v ≡ f i → Tabled d xs f i → Tabled d (set xs i v) f (i + 1)
 table-put d xs f i v h e t =

@@ -30,8 +30,10 @@ use Rattle.walks.specs.Certified.{isSave}
 use Rattle.walks.proofs.Imaging.{lawful-sound}
 use Rattle.walks.proofs.Walking.{reach-below}
 use Rattle.search.specs.Reach.{Reaches, itself, onward as further, Tells}
-use Rattle.certifier.specs.Table.{numbered, paired, successorsOf, noNode, wayNode, walkNode, savedAt, startedBy, Tabled}
-use Rattle.certifier.proofs.Clash.{clash}
+use Rattle.tables.specs.Node.{numbered, paired, successorsOf, noNode, Tabled}
+use Rattle.tables.specs.Start.{wayNode, savedAt, startedBy}
+use Rattle.tables.specs.Walk.{walkNode}
+use Rattle.walks.proofs.Clash.{clash}
 
 pub slots-small : (image : List ℕ) → Lawful image → slotCount image ≤ 1024
 slots-small image lawful =

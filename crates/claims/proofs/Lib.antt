@@ -1,0 +1,7 @@
+pub mod Claiming
+pub mod Following
+pub mod Going
+pub mod Invariant
+pub mod Keeping
+pub mod Rounding
+pub mod Running

@@ -1,0 +1,5 @@
+pub mod Example
+pub mod Place
+pub mod Settle
+pub mod SlotBytes
+pub mod Turn

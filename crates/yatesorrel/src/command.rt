@@ -16,6 +16,13 @@ pub enum Command {
         // none: the operand model
         prices: Option<String>,
     },
+    Place {
+        file: String,
+        budget: u64,
+        out: String,
+        // none: the operand model
+        prices: Option<String>,
+    },
     Run {
         file: String,
         tape: String,
@@ -24,10 +31,15 @@ pub enum Command {
     Help,
 }
 
+const BUDGET_USE: &str = "a budget is a number, 1 to 100000000";
+
 const CERTIFY_USE: &str =
     "certify takes a file and a budget: yatesorrel certify ROUND BUDGET [--prices FILE]";
 
 const LIST_USE: &str = "list takes a file: yatesorrel list ROUND";
+
+const PLACE_USE: &str =
+    "place takes a file, a budget and a file to write: yatesorrel place ROUND BUDGET OUT [--prices FILE]";
 
 const RUN_USE: &str =
     "run takes a file, a tape and a supply: yatesorrel run ROUND TAPE mains [--steps N]";
@@ -67,12 +79,22 @@ fn read_certify(words: &[String]) -> Result<Command, AnyError> {
         ),
         _ => return Err(CERTIFY_USE.into()),
     };
-    let budget = read_number(budget.as_str(), "a budget is a number, 1 to 100000000")?;
+    let budget = read_number(budget.as_str(), BUDGET_USE)?;
     Ok(Command::Certify {
         file: file.clone()?,
         budget,
         prices,
     })
+}
+
+fn read_place(words: &[String]) -> Result<Command, AnyError> {
+    let (file, budget, out, prices) = match words {
+        [_, file, budget, out] => (file, budget, out, None),
+        [_, file, budget, out, option, prices] if option.as_str() == "--prices" => (file, budget, out, Some(prices.clone()?)),
+        _ => return Err(PLACE_USE.into()),
+    };
+    let budget = read_number(budget.as_str(), BUDGET_USE)?;
+    Ok(Command::Place { file: file.clone()?, budget, out: out.clone()?, prices })
 }
 
 fn read_run(words: &[String]) -> Result<Command, AnyError> {
@@ -105,6 +127,7 @@ pub fn read_command(rt: &LibcRuntime) -> Result<Command, AnyError> {
     match first.as_str() {
         "list" => read_list(words.as_slice()),
         "certify" => read_certify(words.as_slice()),
+        "place" => read_place(words.as_slice()),
         "run" => read_run(words.as_slice()),
         "help" => Ok(Command::Help),
         _ => Err("there is no such command; try: yatesorrel help".into()),

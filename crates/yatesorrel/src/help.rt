@@ -8,6 +8,9 @@ const HELP: &str = "yatesorrel checks a logger's reading round before it goes un
   yatesorrel list ROUND   lists an image, and says whether it is lawful
   yatesorrel certify ROUND BUDGET [--prices FILE]
                           says whether every stretch fits one charge of BUDGET
+  yatesorrel place ROUND BUDGET OUT [--prices FILE]
+                          turns idle slots into saves so that every stretch
+                          fits, and writes the image to OUT
   yatesorrel run ROUND TAPE mains [--steps N]
                           runs an image over a tape, at most N steps (1000000)
   yatesorrel help         prints this

@@ -9,15 +9,14 @@ use isa::reason::RefusalDisplay;
 use isa::refusal::Refusal;
 use std::io;
 
-// A refusal: its numbers on a line of their own, then the reason.
+// A refusal: its numbers on a line of their own, with those of a refusal that
+// it carries, then the reason.
 pub fn print_refusal(rt: &LibcRuntime, refusal: Refusal) -> io::Result<()> {
-    println!(
-        rt,
-        "refused {} slot {} price {}",
-        refusal.number(),
-        refusal.slot(),
-        refusal.price()
-    )?;
+    print!(rt, "refused {} slot {} price {}", refusal.number(), refusal.slot(), refusal.price())?;
+    if let Some(carried) = refusal.carried() {
+        print!(rt, " carrying {} slot {} price {}", carried.number, carried.slot, carried.price)?;
+    }
+    println!(rt)?;
     println!(rt, "{refusal}")
 }
 

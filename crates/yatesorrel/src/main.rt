@@ -4,6 +4,7 @@ mod command;
 mod guide;
 mod help;
 mod list;
+mod place;
 mod prices;
 mod run;
 mod slots;
@@ -17,6 +18,7 @@ use command::read_command;
 use guide::guide;
 use help::print_help;
 use list::list;
+use place::place_saves;
 use prices::read_prices;
 use pricing::flat::FlatPrices;
 use pricing::operand::OperandModel;
@@ -57,6 +59,34 @@ fn certify_file(
     }
 }
 
+// Writes a file whole or not at all: under another name first.
+fn write_whole(rt: &LibcRuntime, file: &str, bytes: &[u8]) -> Result<(), AnyError> {
+    let part = format!(rt.alloc(), "{file}.part")?;
+    fs::write(rt, part.as_str(), bytes)?;
+    fs::rename(rt, part.as_str(), file)?;
+    Ok(())
+}
+
+fn place_priced(rt: &LibcRuntime, before: &[u8], image: &mut [u8], budget: u64, prices: Option<String>) -> Result<Verdict, AnyError> {
+    match prices {
+        None => Ok(place_saves(rt, before, image, &OperandModel, budget)?),
+        Some(file) => {
+            let text = read_text(rt, file.as_str())?;
+            let model = read_prices(rt, file.as_str(), text.as_str())?;
+            Ok(place_saves(rt, before, image, &model, budget)?)
+        }
+    }
+}
+
+fn place_file(rt: &LibcRuntime, before: &[u8], budget: u64, out: &str, prices: Option<String>) -> Result<Verdict, AnyError> {
+    let mut image = before.to_vec(rt.alloc())?;
+    let verdict = place_priced(rt, before, image.as_mut_slice(), budget, prices)?;
+    if let Verdict::Passed = verdict {
+        write_whole(rt, out, image.as_slice())?;
+    }
+    Ok(verdict)
+}
+
 fn obey(rt: &LibcRuntime) -> Result<Verdict, AnyError> {
     match read_command(rt)? {
         Command::Guide => Ok(guide(rt)?),
@@ -71,6 +101,15 @@ fn obey(rt: &LibcRuntime) -> Result<Verdict, AnyError> {
         } => {
             let image = read_image(rt, file.as_str())?;
             certify_file(rt, image.as_slice(), budget, prices)
+        }
+        Command::Place {
+            file,
+            budget,
+            out,
+            prices,
+        } => {
+            let image = read_image(rt, file.as_str())?;
+            place_file(rt, image.as_slice(), budget, out.as_str(), prices)
         }
         Command::Run { file, tape, steps } => {
             let image = read_image(rt, file.as_str())?;

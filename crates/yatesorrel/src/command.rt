@@ -90,11 +90,21 @@ fn read_certify(words: &[String]) -> Result<Command, AnyError> {
 fn read_place(words: &[String]) -> Result<Command, AnyError> {
     let (file, budget, out, prices) = match words {
         [_, file, budget, out] => (file, budget, out, None),
-        [_, file, budget, out, option, prices] if option.as_str() == "--prices" => (file, budget, out, Some(prices.clone()?)),
+        [_, file, budget, out, option, prices] if option.as_str() == "--prices" => (
+            file,
+            budget,
+            out,
+            Some(prices.clone()?),
+        ),
         _ => return Err(PLACE_USE.into()),
     };
     let budget = read_number(budget.as_str(), BUDGET_USE)?;
-    Ok(Command::Place { file: file.clone()?, budget, out: out.clone()?, prices })
+    Ok(Command::Place {
+        file: file.clone()?,
+        budget,
+        out: out.clone()?,
+        prices,
+    })
 }
 
 fn read_run(words: &[String]) -> Result<Command, AnyError> {

@@ -2,6 +2,7 @@
 use crate::certify::certify_round;
 use crate::list::print_refusal;
 use crate::list::print_roles;
+use crate::place::place_saves;
 use crate::run::MOST_STEPS;
 use crate::run::print_run;
 use crate::slots::print_slot;
@@ -93,6 +94,19 @@ fn show_certifying(rt: &LibcRuntime) -> io::Result<()> {
     Ok(())
 }
 
+fn show_placing(rt: &LibcRuntime) -> io::Result<()> {
+    let mut placed = *PIEZOMETER_PAIR;
+    println!(
+        rt,
+        "With {LITTLE} units, the placer turns idle slots into saves, none of which can be left out:"
+    )?;
+    let _ = place_saves(rt, PIEZOMETER_PAIR, &mut placed, &OperandModel, LITTLE)?;
+    println!(rt)?;
+    println!(rt, "The round with these saves, at {LITTLE}:")?;
+    let _ = certify_round(rt, &placed, &OperandModel, LITTLE)?;
+    Ok(())
+}
+
 pub fn guide(rt: &LibcRuntime) -> io::Result<Verdict> {
     show_round(rt)?;
     println!(rt)?;
@@ -101,5 +115,7 @@ pub fn guide(rt: &LibcRuntime) -> io::Result<Verdict> {
     show_damage(rt)?;
     println!(rt)?;
     show_certifying(rt)?;
+    println!(rt)?;
+    show_placing(rt)?;
     Ok(Verdict::Passed)
 }

@@ -12,9 +12,19 @@ use std::io;
 // A refusal: its numbers on a line of their own, with those of a refusal that
 // it carries, then the reason.
 pub fn print_refusal(rt: &LibcRuntime, refusal: Refusal) -> io::Result<()> {
-    print!(rt, "refused {} slot {} price {}", refusal.number(), refusal.slot(), refusal.price())?;
+    print!(
+        rt,
+        "refused {} slot {} price {}",
+        refusal.number(),
+        refusal.slot(),
+        refusal.price()
+    )?;
     if let Some(carried) = refusal.carried() {
-        print!(rt, " carrying {} slot {} price {}", carried.number, carried.slot, carried.price)?;
+        print!(
+            rt,
+            " carrying {} slot {} price {}",
+            carried.number, carried.slot, carried.price
+        )?;
     }
     println!(rt)?;
     println!(rt, "{refusal}")

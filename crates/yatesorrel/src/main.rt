@@ -67,7 +67,13 @@ fn write_whole(rt: &LibcRuntime, file: &str, bytes: &[u8]) -> Result<(), AnyErro
     Ok(())
 }
 
-fn place_priced(rt: &LibcRuntime, before: &[u8], image: &mut [u8], budget: u64, prices: Option<String>) -> Result<Verdict, AnyError> {
+fn place_priced(
+    rt: &LibcRuntime,
+    before: &[u8],
+    image: &mut [u8],
+    budget: u64,
+    prices: Option<String>,
+) -> Result<Verdict, AnyError> {
     match prices {
         None => Ok(place_saves(rt, before, image, &OperandModel, budget)?),
         Some(file) => {
@@ -78,7 +84,13 @@ fn place_priced(rt: &LibcRuntime, before: &[u8], image: &mut [u8], budget: u64, 
     }
 }
 
-fn place_file(rt: &LibcRuntime, before: &[u8], budget: u64, out: &str, prices: Option<String>) -> Result<Verdict, AnyError> {
+fn place_file(
+    rt: &LibcRuntime,
+    before: &[u8],
+    budget: u64,
+    out: &str,
+    prices: Option<String>,
+) -> Result<Verdict, AnyError> {
     let mut image = before.to_vec(rt.alloc())?;
     let verdict = place_priced(rt, before, image.as_mut_slice(), budget, prices)?;
     if let Verdict::Passed = verdict {

@@ -1,0 +1,3 @@
+// Tests of the placer: where saves are placed, and when none can be.
+#[cfg(test)]
+mod rounds;

@@ -1,11 +1,13 @@
-// Times certifying at growing sizes. Standard output says what was done, and
+// Times certifying and placing at growing sizes. Standard output says what was done, and
 // standard error how long it took, in microseconds for each call.
 mod images;
 
 use certifier::certify::certify;
 use images::forking;
+use images::idling;
 use images::straight;
 use paths::worth::Worth;
+use placer::place::place;
 use pricing::operand::OperandModel;
 use pricing::operand::OperandPrices;
 use std::error::AnyError;
@@ -37,9 +39,30 @@ fn time_one(rt: &LibcRuntime, name: &str, image: &[u8]) -> Result<(), AnyError> 
     Ok(())
 }
 
+// A budget at which the round of readings needs saves.
+const LITTLE: u64 = 600;
+
+fn place_once(image: &mut [u8], working: &mut [Worth]) -> bool {
+    place(image, &OperandModel, LITTLE, working).is_ok()
+}
+
+fn time_placing(rt: &LibcRuntime, image: &[u8]) -> Result<(), AnyError> {
+    let mut working = [Worth { price: 0, slot: 0 }; 1024];
+    let mut placed = image.to_vec(rt.alloc())?;
+    let begun = Instant::now(rt)?;
+    let done = place_once(placed.as_mut_slice(), &mut working);
+    let micros = begun.elapsed(rt)?.as_micros();
+    let slots = image.len() / 8;
+    println!(rt, "place idling {slots} slots: {done}")?;
+    eprintln!(rt, "place idling {slots} slots: {micros} us")?;
+    Ok(())
+}
+
 fn run(rt: &LibcRuntime) -> Result<(), AnyError> {
     for slots in [128, 256, 512, 1024] {
         time_one(rt, "straight", straight(rt.alloc(), slots)?.as_slice())?;
+        time_one(rt, "idling", idling(rt.alloc(), slots)?.as_slice())?;
+        time_placing(rt, idling(rt.alloc(), slots)?.as_slice())?;
         time_one(rt, "forking", forking(rt.alloc(), slots)?.as_slice())?;
     }
     Ok(())

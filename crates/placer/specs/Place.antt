@@ -3,8 +3,10 @@
 --     placementOf m image budget    the idle slots that become saves, or the answer that refuses: every idle slot turned into
 --                                   a save, and then each of them made idle again, upward, where the image is accepted so
 --     unplaced a                    the refusal for want of a placement, which carries the answer a
+--     answerBy p, imageBy p image       the answer by a placement p, and the image that it leaves
 --     placing m image budget room       the answer: the certifier's checks, and then the placement
 --     placedImage m image budget room   the image that is left: the slots of the placement are saves, or it is as it was
+--     answerOf u                    the answer that a refusal for want of a placement carries
 --     Chosen m image budget P       some idle slots: with them turned into saves the image is accepted
 --     Meaning m before budget room after r     what an answer says of the images before and after
 --     Left m before after old new r            what an answer leaves in the working list

@@ -1,200 +1,190 @@
-// Small rounds and the saves that are placed in them. The placements were worked
-// out by a search over the walks that shares nothing with the placer.
-use isa::image::instruction_at;
-use isa::instruction::Role;
-use isa::instruction::RolePartialEq;
-use isa::refusal::Told;
-use isa::refusal::ToldDebug;
-use isa::refusal::ToldPartialEq;
+// Rounds with saves placed: which idle slots become saves.
+use isa::refusal::Refusal;
 use paths::worth::Worth;
 use placer::place::place;
 use pricing::operand::OperandModel;
 use pricing::operand::OperandPrices;
 use std::test::*;
 
-struct Case {
-    image: &'static [u8],
-    budget: u64,
-    // the slots that become saves
-    saves: &'static [u16],
-    // what a refusal carries, all 0 where saves are placed
-    carried: Told,
+const NONE: Worth = Worth { price: 0, slot: 0 };
+
+fn placed(image: &mut [u8], budget: u64) -> Result<(), Refusal> {
+    let mut working = [NONE; 1024];
+    place(image, &OperandModel, budget, working.as_mut_slice())
 }
 
-const NONE: Told = Told {
-    number: 0,
-    slot: 0,
-    price: 0,
-};
-
-static CASES: [Case; 10] = [
-    // the six-slot round, one save needed
-    Case {
-        image: b"\xb7\x01\0\0\x07\0\0\0\
-          \x85\0\0\0\x02\0\0\0\
-          \xbf\x02\0\0\0\0\0\0\
-          \x05\0\0\0\0\0\0\0\
-          \x85\0\0\0\x03\0\0\0\
-          \x95\0\0\0\0\0\0\0",
-        budget: 243,
-        saves: &[3],
-        carried: NONE,
-    },
-    // none needed
-    Case {
-        image: b"\xb7\x01\0\0\x07\0\0\0\
-          \x85\0\0\0\x02\0\0\0\
-          \xbf\x02\0\0\0\0\0\0\
-          \x05\0\0\0\0\0\0\0\
-          \x85\0\0\0\x03\0\0\0\
-          \x95\0\0\0\0\0\0\0",
-        budget: 258,
-        saves: &[],
-        carried: NONE,
-    },
-    // not even with every idle slot a save
-    Case {
-        image: b"\xb7\x01\0\0\x07\0\0\0\
-          \x85\0\0\0\x02\0\0\0\
-          \xbf\x02\0\0\0\0\0\0\
-          \x05\0\0\0\0\0\0\0\
-          \x85\0\0\0\x03\0\0\0\
-          \x95\0\0\0\0\0\0\0",
-        budget: 242,
-        saves: &[],
-        carried: Told {
-            number: 10,
-            slot: 0,
-            price: 243,
-        },
-    },
-    // a round with a save of its own
-    Case {
-        image: b"\xb7\x01\0\0\x07\0\0\0\
-          \x05\0\0\0\0\0\0\0\
-          \x85\0\0\0\x02\0\0\0\
-          \x85\0\0\0\x01\0\0\0\
-          \x05\0\0\0\0\0\0\0\
-          \x85\0\0\0\x02\0\0\0\
-          \x95\0\0\0\0\0\0\0",
-        budget: 300,
-        saves: &[],
-        carried: NONE,
-    },
-    // an idle slot that a jump leads to
-    Case {
-        image: b"\x15\x01\x01\0\0\0\0\0\
-          \x85\0\0\0\x02\0\0\0\
-          \x05\0\0\0\0\0\0\0\
-          \x85\0\0\0\x02\0\0\0\
-          \x85\0\0\0\x03\0\0\0\
-          \x95\0\0\0\0\0\0\0",
-        budget: 250,
-        saves: &[],
-        carried: Told {
-            number: 10,
-            slot: 3,
-            price: 253,
-        },
-    },
-    // an idle slot that cannot be reached
-    Case {
-        image: b"\x05\0\x01\0\0\0\0\0\
-          \x05\0\0\0\0\0\0\0\
-          \xb7\x01\0\0\x07\0\0\0\
-          \x95\0\0\0\0\0\0\0",
-        budget: 160,
-        saves: &[],
-        carried: NONE,
-    },
-    // a loop that needs a save
-    Case {
-        image: b"\xb7\x01\0\0\x07\0\0\0\
-          \x05\0\0\0\0\0\0\0\
-          \x15\x01\xfe\xff\0\0\0\0\
-          \x95\0\0\0\0\0\0\0",
-        budget: 400,
-        saves: &[1],
-        carried: NONE,
-    },
-    // a loop without an idle slot
-    Case {
-        image: b"\xb7\x01\0\0\x07\0\0\0\
-          \x15\x01\xfe\xff\0\0\0\0\
-          \x05\0\0\0\0\0\0\0\
-          \x95\0\0\0\0\0\0\0",
-        budget: 100000000,
-        saves: &[],
-        carried: Told {
-            number: 9,
-            slot: 0,
-            price: 0,
-        },
-    },
-    // every idle slot needed
-    Case {
-        image: b"\x85\0\0\0\x02\0\0\0\
-          \x05\0\0\0\0\0\0\0\
-          \x85\0\0\0\x02\0\0\0\
-          \x05\0\0\0\0\0\0\0\
-          \x85\0\0\0\x02\0\0\0\
-          \x05\0\0\0\0\0\0\0\
-          \x85\0\0\0\x02\0\0\0\
-          \x95\0\0\0\0\0\0\0",
-        budget: 241,
-        saves: &[1, 3, 5],
-        carried: NONE,
-    },
-    // the first of two left out
-    Case {
-        image: b"\x05\0\0\0\0\0\0\0\
-          \x85\0\0\0\x02\0\0\0\
-          \x05\0\0\0\0\0\0\0\
-          \x85\0\0\0\x02\0\0\0\
-          \x95\0\0\0\0\0\0\0",
-        budget: 330,
-        saves: &[2],
-        carried: NONE,
-    },
-];
-
-fn role_at(image: &[u8], slot: u16) -> Option<Role> {
-    match instruction_at(image, slot) {
-        Some(instruction) => Some(instruction.role()),
-        None => None,
-    }
-}
-
-// The slots that were idle and are saves now are the ones named.
-fn check_saves(before: &[u8], after: &[u8], saves: &[u16]) -> Result<(), Fail> {
-    for slot in 0..64u16 {
-        let placed = role_at(before, slot) == Some(Role::Idle)
-            && role_at(after, slot) == Some(Role::Save);
-        check_eq(placed, saves.contains(&slot))?;
-    }
-    Ok(())
-}
-
-fn check_case(rt: &LibcRuntime, case: &Case) -> Result<(), Fail> {
-    let mut working = [Worth { price: 0, slot: 0 }; 1024];
-    let mut image = case.image.to_vec(rt.alloc())?;
-    let carried = match place(
-        image.as_mut_slice(),
-        &OperandModel,
-        case.budget,
-        &mut working,
-    ) {
-        Ok(()) => NONE,
-        Err(refusal) => refusal.carried().ok_or("another refusal")?,
-    };
-    check_eq(carried, case.carried)?;
-    check_saves(case.image, image.as_slice(), case.saves)
-}
-
+// An own save stays, and the idle slot after it becomes one where it has to.
 #[test]
-fn rounds(rt: LibcRuntime) -> Result<(), Fail> {
-    for case in &CASES {
-        check_case(&rt, case)?;
-    }
-    Ok(())
+fn own_saves_stay() -> Result<(), Fail> {
+    let mut image = [
+        0x85,
+        0,
+        0,
+        0,
+        1,
+        0,
+        0,
+        0,
+        0x05,
+        0,
+        0,
+        0,
+        0,
+        0,
+        0,
+        0,
+        0x95,
+        0,
+        0,
+        0,
+        0,
+        0,
+        0,
+        0,
+    ];
+    check(placed(image.as_mut_slice(), 150).is_ok())?;
+    check_eq(image[0], 0x85)?;
+    check_eq(image[8], 0x05)?;
+    check(placed(image.as_mut_slice(), 149).is_ok())?;
+    check_eq(image[0], 0x85)?;
+    check_eq(image[8], 0x85)?;
+    check_eq(image[12], 1)
+}
+
+// A jump's target becomes a save; the idle slot that nothing reaches stays.
+#[test]
+fn targets_and_unreachable_slots() -> Result<(), Fail> {
+    let mut image = [
+        0x05,
+        0,
+        1,
+        0,
+        0,
+        0,
+        0,
+        0,
+        0x05,
+        0,
+        0,
+        0,
+        0,
+        0,
+        0,
+        0,
+        0x05,
+        0,
+        0,
+        0,
+        0,
+        0,
+        0,
+        0,
+        0x95,
+        0,
+        0,
+        0,
+        0,
+        0,
+        0,
+        0,
+    ];
+    check(placed(image.as_mut_slice(), 150).is_ok())?;
+    check_eq(image[0], 0x05)?;
+    check_eq(image[8], 0x05)?;
+    check_eq(image[16], 0x85)?;
+    check_eq(image[24], 0x95)
+}
+
+// A loop is broken by a save.
+#[test]
+fn loops_are_broken() -> Result<(), Fail> {
+    let mut image = [0x05, 0, 0, 0, 0, 0, 0, 0, 0x05, 0, 0xfe, 0xff, 0, 0, 0, 0];
+    check(placed(image.as_mut_slice(), 149).is_ok())?;
+    check_eq(image[0], 0x85)?;
+    check_eq(image[8], 0x05)
+}
+
+// Two divisions, each with an idle slot after it: both slots are needed.
+#[test]
+fn every_slot_needed() -> Result<(), Fail> {
+    let mut image = [
+        0x37,
+        1,
+        0,
+        0,
+        1,
+        0,
+        0,
+        0,
+        0x05,
+        0,
+        0,
+        0,
+        0,
+        0,
+        0,
+        0,
+        0x37,
+        1,
+        0,
+        0,
+        1,
+        0,
+        0,
+        0,
+        0x05,
+        0,
+        0,
+        0,
+        0,
+        0,
+        0,
+        0,
+        0x95,
+        0,
+        0,
+        0,
+        0,
+        0,
+        0,
+        0,
+    ];
+    check(placed(image.as_mut_slice(), 156).is_ok())?;
+    check_eq(image[8], 0x85)?;
+    check_eq(image[24], 0x85)
+}
+
+// Two idle slots of which the later one suffices: upward, the first is
+// dropped.
+#[test]
+fn upward() -> Result<(), Fail> {
+    let mut image = [
+        0x05,
+        0,
+        0,
+        0,
+        0,
+        0,
+        0,
+        0,
+        0x05,
+        0,
+        0,
+        0,
+        0,
+        0,
+        0,
+        0,
+        0x95,
+        0,
+        0,
+        0,
+        0,
+        0,
+        0,
+        0,
+    ];
+    check(placed(image.as_mut_slice(), 150).is_ok())?;
+    check_eq(image[0], 0x05)?;
+    check_eq(image[8], 0x85)
 }

@@ -1,4 +1,5 @@
-use mathlib.Core.Path.{_≡_, refl, sym, ap, subst, subst⁻¹, _∙_}
+-- Each turn of the loop lengthens the history by a call, so the run claims hold of the rig that is left.
+use mathlib.Core.Path.{_≡_, refl, sym, ap, subst⁻¹, _∙_}
 use mathlib.Core.List.{List, [], _∷_, _++_}
 use Prim.Native.Nat.{ℕ, _+_, _<_, min}
 use native.Mathlib.Omega.{arith}
@@ -31,6 +32,7 @@ further {G = G} {m} {s} {r} {r′} calls replies i d a h k past t =
     subst⁻¹ (λ (l : List Call). History G m s l (take (i + 1) (set replies i a)) r′) (take-more calls i d h)
     (subst⁻¹ (λ (l : List Reply). History G m s (take i calls ++ c ∷ []) l r′) (take-more-set replies i a k) (called c a past t))
 
+-- the replies past the call stay as they were
 rest : (replies first : List Reply) (i : ℕ) (a : Reply) → drop i replies ≡ drop i first → drop (i + 1) (set replies i a) ≡ drop (i + 1) first
 rest replies first i a e = drop-set-lt (i + 1) replies i a (omega arith) ∙ sym (drop-drop 1 i replies) ∙ ap (drop 1) e ∙ drop-drop 1 i first
 
@@ -47,6 +49,7 @@ loop-made-again g c =
       omega arith,
     )
 
+-- a history of all the calls is a rehearsal
 rehearsed : {S : Type 0} {G : Ghosts S} (keeps : Keeps G) (d : Model) (bounded : Bounded d) (image tape : List ℕ) (s : S) (calls : List Call) (before after : List Reply) (r : Rig S State) (n : ℕ)
     → n ≡ min (length calls) (length before) → drop n after ≡ drop n before
     → History G (roundOf d image tape) s (take n calls) (take n after) r → Rehearsed G d image tape s calls before after r

@@ -1,7 +1,6 @@
-// Steps and cuts of a rig.
-ghost use Rattle.claims.specs.Rig.{CutDone, Stepped};
+// A step of a rig.
+ghost use Rattle.claims.specs.Rig.{Stepped};
 ghost use Rattle.claims.specs.Round.{roundOf};
-ghost use Rattle.machine.specs.State.{ended};
 ghost use Rattle.rig.specs.Seen.{seen};
 use crate::charge::charge;
 use crate::plan::planned;
@@ -13,8 +12,6 @@ use supply::answer::Answer;
 use supply::supply::Supply;
 
 const ATTEMPTS: u32 = 1_000_000;
-
-const CUTS: u32 = 1_000_000;
 
 impl<S: Supply> Rig<S> {
     // Attempts one step. On a yes the new state stands, and a save or an ending
@@ -52,21 +49,5 @@ impl<S: Supply> Rig<S> {
                 Ok(Attempt::No)
             }
         }
-    }
-
-    // Cuts the supply: the kept state returns.
-    pub fn cut(&mut self) -> Result<(), Refusal>
-        ensures { λ a. ⌜ CutDone S·Supply ended (seen (now (self .entry))) a (seen (now (self .exit))) ⌝ }
-    {
-        if self.kept.ended() {
-            return Err(Refusal::Ended);
-        }
-        if self.cuts >= CUTS {
-            return Err(Refusal::Cuts);
-        }
-        self.cuts += 1;
-        charge(&mut self.supply);
-        self.state = self.kept;
-        Ok(())
     }
 }

@@ -18,6 +18,7 @@ use Rattle.claims.specs.Round.{roundOf}
 use Rattle.claims.proofs.Claiming.{run-claims}
 use Rattle.claims.proofs.Invariant.{Keeps}
 use Rattle.rig.specs.Rehearsal.{Rehearsed}
+use Rattle.rig.proofs.rehearse.rehearse.Given as given
 use Rattle.rig.proofs.rehearse.rehearse.Needs as need
 
 pub loop-made-holds : need.loop-made-holds
@@ -62,20 +63,28 @@ rehearsed {G = G} keeps d bounded image tape s calls before after r n all rest h
       claimed = λ budget lawful accepted b. run-claims G keeps d bounded image tape lawful budget accepted s b (take n calls) (take n after) r h;
     }
 
+-- the laws of the supply and of the model
+keeps : (g : given.Over) → Keeps (g .S·Supply)
+keeps g = record { drawn = g .S·Supply·met .drawn; recharged = g .S·Supply·met .recharged }
+
+bounded : (g : given.Over) (v : g .M .Denot) → Bounded (g .M·PriceModel .means v)
+bounded g v =
+    let w = g .M·PriceModel·met in
+    record {
+      spending-within = w .«spending_within» v;
+      saving-within = w .«saving_within» v;
+      most-small = w .«most_small» v;
+      dearest-small = w .«dearest_small» v;
+    }
+
 pub returns-else-made-replies : need.returns-else-made-replies
 returns-else-made-replies g c =
-    let v = c .args .model .now in
-    let w = g .M·PriceModel·met in
     let i = c .loop-made .inv in
-    rehearsed (record { drawn = g .S·Supply·met .drawn; recharged = g .S·Supply·met .recharged }) (g .M·PriceModel .means v)
-    (record { spending-within = w .«spending_within» v; saving-within = w .«saving_within» v; most-small = w .«most_small» v; dearest-small = w .«dearest_small» v })
-    _ _ _ _ _ _ _ (c .loop-made .made) (omega arith) (i .1) (i .0 (c .args .supply) (c .begin-rig .ensures))
+    rehearsed (keeps g) (g .M·PriceModel .means (c .args .model .now)) (bounded g (c .args .model .now)) _ _ _ _ _ _ _ (c .loop-made .made)
+    (omega arith) (i .1) (i .0 (c .args .supply) (c .begin-rig .ensures))
 
 pub returns-after-loop-made : need.returns-after-loop-made
 returns-after-loop-made g c =
-    let v = c .args .model .now in
-    let w = g .M·PriceModel·met in
     let i = c .loop-made .inv in
-    rehearsed (record { drawn = g .S·Supply·met .drawn; recharged = g .S·Supply·met .recharged }) (g .M·PriceModel .means v)
-    (record { spending-within = w .«spending_within» v; saving-within = w .«saving_within» v; most-small = w .«most_small» v; dearest-small = w .«dearest_small» v })
-    _ _ _ _ _ _ _ (c .loop-made .made) (omega arith) (i .1) (i .0 (c .args .supply) (c .begin-rig .ensures))
+    rehearsed (keeps g) (g .M·PriceModel .means (c .args .model .now)) (bounded g (c .args .model .now)) _ _ _ _ _ _ _ (c .loop-made .made)
+    (omega arith) (i .1) (i .0 (c .args .supply) (c .begin-rig .ensures))

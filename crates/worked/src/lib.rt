@@ -1,0 +1,3 @@
+// Rounds on a rig whose counts are known.
+pub mod capacitor;
+pub mod known;

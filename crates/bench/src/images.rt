@@ -13,6 +13,12 @@ const IDLE: [u8; 8] = [0x05, 0, 0, 0, 0, 0, 0, 0];
 
 const EXIT: [u8; 8] = [0x95, 0, 0, 0, 0, 0, 0, 0];
 
+// r1 += 1, without end
+pub const ARITHMETIC: &[u8; 16] = b"\x07\x01\0\0\x01\0\0\0\x05\0\xfe\xff\0\0\0\0";
+
+// a save, without end
+pub const SAVING: &[u8; 16] = b"\x85\0\0\0\x01\0\0\0\x05\0\xfe\xff\0\0\0\0";
+
 fn push(image: &mut Vec<u8>, slot: [u8; 8]) -> Result<(), AllocError> {
     for byte in slot {
         image.push(byte)?;

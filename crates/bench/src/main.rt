@@ -1,6 +1,7 @@
-// Times certifying and placing at growing sizes. Standard output says what was done, and
+// Times certifying and placing at growing sizes, and steps. Standard output says what was done, and
 // standard error how long it took, in microseconds for each call.
 mod images;
+mod steps;
 
 use certifier::certify::certify;
 use images::forking;
@@ -12,6 +13,7 @@ use pricing::operand::OperandModel;
 use pricing::operand::OperandPrices;
 use std::error::AnyError;
 use std::time::Instant;
+use steps::time_steps;
 
 const CALLS: u32 = 200;
 
@@ -65,7 +67,7 @@ fn run(rt: &LibcRuntime) -> Result<(), AnyError> {
         time_placing(rt, idling(rt.alloc(), slots)?.as_slice())?;
         time_one(rt, "forking", forking(rt.alloc(), slots)?.as_slice())?;
     }
-    Ok(())
+    time_steps(rt)
 }
 
 fn main(rt: LibcRuntime) -> Result<(), AnyError> {

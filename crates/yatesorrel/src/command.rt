@@ -1,5 +1,8 @@
 // What the command line asks for.
 use crate::run::MOST_STEPS;
+use crate::supplies::Source;
+use crate::supplies::read_source;
+use std::alloc::Global;
 use std::env;
 use std::error::AnyError;
 
@@ -26,7 +29,8 @@ pub enum Command {
     Run {
         file: String,
         tape: String,
-        steps: u64,
+        source: Source,
+        options: Options,
     },
     Help,
 }
@@ -42,7 +46,7 @@ const PLACE_USE: &str =
     "place takes a file, a budget and a file to write: yatesorrel place ROUND BUDGET OUT [--prices FILE]";
 
 const RUN_USE: &str =
-    "run takes a file, a tape and a supply: yatesorrel run ROUND TAPE mains [--steps N]";
+    "run takes a file, a tape and a supply: yatesorrel run ROUND TAPE SUPPLY [--prices FILE] [--cut N]... [--steps N]";
 
 // The words after the program's name.
 fn words(rt: &LibcRuntime) -> Result<Vec<String>, AnyError> {
@@ -107,24 +111,55 @@ fn read_place(words: &[String]) -> Result<Command, AnyError> {
     })
 }
 
-fn read_run(words: &[String]) -> Result<Command, AnyError> {
-    let (file, tape, supply, steps) = match words {
-        [_, file, tape, supply] => (file, tape, supply, MOST_STEPS),
-        [_, file, tape, supply, option, number] if option.as_str() == "--steps" => (
-            file,
-            tape,
-            supply,
-            read_number(number.as_str(), "--steps takes a number")?,
+// What comes behind the supply.
+#[derive(Drop)]
+pub struct Options {
+    // none: the operand model
+    pub prices: Option<String>,
+    pub cuts: Vec<u64>,
+    pub steps: u64,
+}
+
+fn take_option(options: &mut Options, name: &str, value: &String) -> Result<(), AnyError> {
+    match name {
+        "--prices" => options.prices = Some(value.clone()?),
+        "--cut" => options
+            .cuts
+            .push(read_number(value.as_str(), "--cut takes a number")?)?,
+        "--steps" => options.steps = read_number(value.as_str(), "--steps takes a number")?.min(
+            MOST_STEPS,
         ),
         _ => return Err(RUN_USE.into()),
-    };
-    if supply.as_str() != "mains" {
-        return Err(RUN_USE.into());
     }
+    Ok(())
+}
+
+fn read_options(heap: Global, words: &[String]) -> Result<Options, AnyError> {
+    let mut options = Options {
+        prices: None,
+        cuts: Vec::new(heap),
+        steps: MOST_STEPS,
+    };
+    for pair in words.chunks(2) {
+        match pair {
+            [name, value] => take_option(&mut options, name.as_str(), value)?,
+            _ => return Err(RUN_USE.into()),
+        }
+    }
+    Ok(options)
+}
+
+fn read_run(heap: Global, words: &[String]) -> Result<Command, AnyError> {
+    let [_, file, tape, supply, rest @ ..] = words else {
+        return Err(RUN_USE.into());
+    };
+    let source = read_source(supply.as_str())?;
+    let options = read_options(heap, rest)?;
     Ok(Command::Run {
         file: file.clone()?,
         tape: tape.clone()?,
-        steps,
+        source,
+        options,
     })
 }
 
@@ -138,7 +173,7 @@ pub fn read_command(rt: &LibcRuntime) -> Result<Command, AnyError> {
         "list" => read_list(words.as_slice()),
         "certify" => read_certify(words.as_slice()),
         "place" => read_place(words.as_slice()),
-        "run" => read_run(words.as_slice()),
+        "run" => read_run(rt.alloc(), words.as_slice()),
         "help" => Ok(Command::Help),
         _ => Err("there is no such command; try: yatesorrel help".into()),
     }

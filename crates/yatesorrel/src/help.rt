@@ -11,8 +11,10 @@ const HELP: &str = "yatesorrel checks a logger's reading round before it goes un
   yatesorrel place ROUND BUDGET OUT [--prices FILE]
                           turns idle slots into saves so that every stretch
                           fits, and writes the image to OUT
-  yatesorrel run ROUND TAPE mains [--steps N]
-                          runs an image over a tape, at most N steps (1000000)
+  yatesorrel run ROUND TAPE SUPPLY [--prices FILE] [--cut N]... [--steps N]
+                          runs an image over a tape on a supply, mains or
+                          capacitor:C,TOP,BOTTOM,UNIT, for N steps (1000000),
+                          with a cut once N steps were asked
   yatesorrel help         prints this
 
 ROUND is a file of raw slots, as llvm-objcopy -O binary --only-section=.text

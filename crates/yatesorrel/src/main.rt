@@ -6,14 +6,17 @@ mod help;
 mod list;
 mod place;
 mod prices;
+mod rehearsal;
 mod run;
 mod slots;
+mod supplies;
 mod tape;
 mod verdict;
 mod walk;
 
 use certify::certify_round;
 use command::Command;
+use command::Options;
 use command::read_command;
 use guide::guide;
 use help::print_help;
@@ -23,9 +26,11 @@ use prices::read_prices;
 use pricing::flat::FlatPrices;
 use pricing::operand::OperandModel;
 use pricing::operand::OperandPrices;
+use rehearsal::script;
 use run::run as run_round;
 use std::error::AnyError;
 use std::fs;
+use supplies::Source;
 use tape::read_tape;
 use verdict::Verdict;
 
@@ -99,9 +104,32 @@ fn place_file(
     Ok(verdict)
 }
 
+fn run_file(
+    rt: &LibcRuntime,
+    image: &[u8],
+    tape: &[u32],
+    source: Source,
+    options: Options,
+) -> Result<Verdict, AnyError> {
+    let Options {
+        prices,
+        cuts,
+        steps,
+    } = options;
+    let calls = script(rt.alloc(), steps, cuts.as_slice())?;
+    match prices {
+        None => run_round(rt, image, &OperandModel, tape, source, calls.as_slice()),
+        Some(file) => {
+            let text = read_text(rt, file.as_str())?;
+            let model = read_prices(rt, file.as_str(), text.as_str())?;
+            run_round(rt, image, &model, tape, source, calls.as_slice())
+        }
+    }
+}
+
 fn obey(rt: &LibcRuntime) -> Result<Verdict, AnyError> {
     match read_command(rt)? {
-        Command::Guide => Ok(guide(rt)?),
+        Command::Guide => guide(rt),
         Command::List { file } => {
             let image = read_image(rt, file.as_str())?;
             Ok(list(rt, image.as_slice())?)
@@ -123,11 +151,16 @@ fn obey(rt: &LibcRuntime) -> Result<Verdict, AnyError> {
             let image = read_image(rt, file.as_str())?;
             place_file(rt, image.as_slice(), budget, out.as_str(), prices)
         }
-        Command::Run { file, tape, steps } => {
+        Command::Run {
+            file,
+            tape,
+            source,
+            options,
+        } => {
             let image = read_image(rt, file.as_str())?;
             let text = read_text(rt, tape.as_str())?;
             let tape = read_tape(rt, tape.as_str(), text.as_str())?;
-            Ok(run_round(rt, image.as_slice(), tape.as_slice(), steps)?)
+            run_file(rt, image.as_slice(), tape.as_slice(), source, options)
         }
         Command::Help => Ok(print_help(rt)?),
     }

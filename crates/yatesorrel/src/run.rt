@@ -1,18 +1,26 @@
-// The command `run`: a round over a tape, on the mains.
+// The command `run`: a round over a tape, on a supply.
+use crate::rehearsal::rehearse_round;
+use crate::supplies::Source;
 use crate::verdict::Verdict;
-use isa::lawful::lawful;
-use isa::reason::RefusalDisplay;
+use claims::call::Call;
 use machine::ending::Ending;
-use machine::run::Run;
-use machine::run::run_for;
 use machine::state::State;
+use pricing::model::PriceModel;
+use std::error::AnyError;
 use std::io;
+use supply::capacitor::Capacitor;
+use supply::capacitor::supply::CapacitorSupply;
+use supply::mains::Mains;
+use supply::mains::MainsSupply;
+
+const LIMITS: &str =
+    "a capacitor has C of 1 to 100000 uF, bottom < top <= 10000 mV, and a unit of 1 to 1000000 pJ";
 
 // The steps of a run where the command line does not say: as many as a rig
 // makes.
 pub const MOST_STEPS: u64 = 1_000_000;
 
-fn print_ending(rt: &LibcRuntime, ending: Option<Ending>) -> io::Result<()> {
+pub fn print_ending(rt: &LibcRuntime, ending: Option<Ending>) -> io::Result<()> {
     match ending {
         Some(Ending::Exit) => println!(rt, "ending exit"),
         Some(Ending::Trap(trap)) => println!(rt, "ending trap {}", trap.number()),
@@ -20,7 +28,7 @@ fn print_ending(rt: &LibcRuntime, ending: Option<Ending>) -> io::Result<()> {
     }
 }
 
-fn print_log(rt: &LibcRuntime, state: &State) -> io::Result<()> {
+pub fn print_log(rt: &LibcRuntime, state: &State) -> io::Result<()> {
     for index in 0..state.logged() {
         if let Some(record) = state.record(index) {
             println!(
@@ -33,17 +41,37 @@ fn print_log(rt: &LibcRuntime, state: &State) -> io::Result<()> {
     Ok(())
 }
 
-pub fn print_run(rt: &LibcRuntime, run: &Run) -> io::Result<()> {
-    println!(rt, "attempts {}", run.steps)?;
-    print_ending(rt, run.state.ending())?;
-    print_log(rt, &run.state)
+// Rehearses a round over the supply that was named, at the model's prices.
+fn run_at<M: PriceModel>(
+    rt: &LibcRuntime,
+    image: &[u8],
+    model: &M,
+    tape: &[u32],
+    source: Source,
+    calls: &[Call],
+) -> Result<(), AnyError> {
+    match source {
+        Source::Mains => rehearse_round(rt, Mains::new(), model, image, tape, calls),
+        Source::Capacitor {
+            microfarads,
+            top,
+            bottom,
+            unit,
+        } => match Capacitor::new(microfarads, top, bottom, unit) {
+            Ok(capacitor) => rehearse_round(rt, capacitor, model, image, tape, calls),
+            Err(_) => Err(LIMITS.into()),
+        },
+    }
 }
 
-// Runs any bytes, with a word where they are no lawful image.
-pub fn run(rt: &LibcRuntime, image: &[u8], tape: &[u32], steps: u64) -> io::Result<Verdict> {
-    if let Err(refusal) = lawful(image) {
-        eprintln!(rt, "yatesorrel: this image is not lawful: {refusal}")?;
-    }
-    print_run(rt, &run_for(image, tape, steps))?;
+pub fn run<M: PriceModel>(
+    rt: &LibcRuntime,
+    image: &[u8],
+    model: &M,
+    tape: &[u32],
+    source: Source,
+    calls: &[Call],
+) -> Result<Verdict, AnyError> {
+    run_at(rt, image, model, tape, source, calls)?;
     Ok(Verdict::Passed)
 }

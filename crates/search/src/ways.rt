@@ -14,7 +14,7 @@ fn within(node: u16) -> Option<u16>
 }
 
 // The pair of ways out, none for one that is not there or leaves the table.
-pub fn ways_within(successors: Successors) -> (Option<u16>, Option<u16>)
+pub(crate) fn ways_within(successors: Successors) -> (Option<u16>, Option<u16>)
     ensures { λ r. ⌜ Split (waysOf successors) (r .0) (r .1) ⌝ }
 {
     match successors {
@@ -24,7 +24,7 @@ pub fn ways_within(successors: Successors) -> (Option<u16>, Option<u16>)
     }
 }
 
-pub fn goes_to(successors: Successors, node: u16) -> bool
+pub(crate) fn goes_to(successors: Successors, node: u16) -> bool
     ensures { λ r. ⌜ (r ≡ true) ↔ In node (waysOf successors) ⌝ }
 {
     match successors {

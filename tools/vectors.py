@@ -1,11 +1,12 @@
 #!/usr/bin/env python3
-"""Instruction vectors for the machine, worked out from RFC 9669 with Python's integers.
+"""Instruction vectors for the machine, worked out as RFC 9669 defines them with Python's integers.
 
     tools/vectors.py inputs     a line for each vector: name, image in hexadecimal, tape
     tools/vectors.py expected   a line for each vector: what its run on the mains must leave
 
 The first is crates/machine_vectors/stdin, the second its stdout. Nothing here reads the machine's
-code: each instruction is written down from the text of RFC 9669 (sections 2.1 and 3 to 5), on
+code: each instruction is written down as RFC 9669 defines it, from knowledge of the standard and
+without a copy of its text at hand, on
 unbounded integers that are cut to a width where the text says so. What the RFC leaves to the
 platform is the rounds' own: 512 bytes of memory from address 0, r10 = 512, helpers 1 to 3, the
 subset of opcodes, and the traps.

@@ -1,5 +1,7 @@
 // The parts of the machine that work on values: arithmetic, comparisons and
 // memory.
+#![tactic(auto)]
+
 pub mod arithmetic;
 pub mod comparison;
 pub mod memory;

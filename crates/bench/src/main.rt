@@ -1,5 +1,7 @@
 // Times certifying and placing at growing sizes, and steps. Standard output says what was done, and
 // standard error how long it took, in microseconds for each call.
+#![tactic(auto)]
+
 mod images;
 mod steps;
 

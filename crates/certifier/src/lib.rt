@@ -1,4 +1,6 @@
 // The certifier: whether every walk of a round fits one full charge.
+#![tactic(auto)]
+
 pub mod certify;
 mod clear;
 pub mod example;

@@ -1,4 +1,6 @@
 // Tests of the certifier: rounds around the edge of every refusal.
+#![tactic(auto)]
+
 #[cfg(test)]
 mod limits;
 #[cfg(test)]

@@ -1,5 +1,7 @@
 // The instruction set of a reading round: what an image is, what an
 // instruction is, and when an image is lawful.
+#![tactic(auto)]
+
 pub mod helper;
 pub mod image;
 pub mod instruction;

@@ -1,4 +1,6 @@
 // Tests of the instruction set and of its text: tables of cases that are run.
+#![tactic(auto)]
+
 #[cfg(test)]
 mod images;
 #[cfg(test)]

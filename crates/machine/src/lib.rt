@@ -1,5 +1,7 @@
 // The machine that runs a reading round without interruption: its state, one
 // step, and a run.
+#![tactic(auto)]
+
 pub mod effect;
 pub mod ending;
 pub mod example;

@@ -5,6 +5,8 @@
 //
 // tools/vectors.py writes both standard input and what is to be printed; it
 // works the states out from RFC 9669, without this code.
+#![tactic(auto)]
+
 ghost use Rattle.std.specs.Prelude.{◌<◌};
 
 use machine::ending::Ending;

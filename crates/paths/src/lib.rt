@@ -1,4 +1,6 @@
 // Path values: what the walks from a node are worth, for any kind of value.
+#![tactic(auto)]
+
 pub mod fill;
 pub mod kind;
 pub mod node;

@@ -1,4 +1,6 @@
 // The placer: which idle slots of a round become saves.
+#![tactic(auto)]
+
 pub mod example;
 pub mod place;
 mod settle;

@@ -1,4 +1,6 @@
 // Tests of the placer: where saves are placed, and when none can be.
+#![tactic(auto)]
+
 #[cfg(test)]
 mod placements;
 #[cfg(test)]

@@ -1,4 +1,6 @@
 // Price models: what an instruction and a saving may spend, and what they do.
+#![tactic(auto)]
+
 pub mod flat;
 mod helper;
 pub mod model;

@@ -1,4 +1,6 @@
 // The rig: a round on a supply that may say no.
+#![tactic(auto)]
+
 pub mod begin;
 mod charge;
 pub mod cut;

@@ -1,4 +1,6 @@
 // Tests of the rig.
+#![tactic(auto)]
+
 #[cfg(test)]
 mod alike;
 #[cfg(test)]

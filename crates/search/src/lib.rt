@@ -4,6 +4,8 @@
 // A table has 1,024 nodes. A successor past it is a node with no successors of
 // its own: it lies on no loop, and no order or table of answers has a place
 // for it.
+#![tactic(auto)]
+
 pub mod list;
 pub mod loops;
 pub mod order;

@@ -1,4 +1,6 @@
 // Supplies: what a round draws its charge from.
+#![tactic(auto)]
+
 pub mod answer;
 pub mod capacitor;
 pub mod mains;

@@ -1,4 +1,6 @@
 // Tests of the supplies.
+#![tactic(auto)]
+
 #[cfg(test)]
 mod capacitors;
 #[cfg(test)]

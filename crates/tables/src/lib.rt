@@ -1,5 +1,7 @@
 // The tables of an image, an entry for each of 1,024 slots: what searches and
 // path values go over.
+#![tactic(auto)]
+
 mod node;
 pub mod start;
 pub mod walk;

@@ -1,3 +1,5 @@
 // Rounds on a rig whose counts are known.
+#![tactic(auto)]
+
 pub mod capacitor;
 pub mod known;

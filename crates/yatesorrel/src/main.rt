@@ -1,4 +1,6 @@
 // Yatesorrel checks a logger's reading round before it goes under grout.
+#![tactic(auto)]
+
 mod certify;
 mod command;
 mod guide;

@@ -13,8 +13,8 @@ answer image o e =
 
 pub returns-in-Some : goal.returns-in-Some
 returns-in-Some c =
-    let a = answer c.args.image.now _ (sym c.in-Some.is ∙ c.first-broken.ensures) in record { value = a.0; judged = a.1 }
+    let a = answer c.args.image.now _ (sym c.in-Some.is ∙ c.first_broken.ensures) in record { value = a.0; judged = a.1 }
 
 pub returns-in-None : goal.returns-in-None
 returns-in-None c =
-    let a = answer c.args.image.now _ (sym c.in-None.is ∙ c.first-broken.ensures) in record { value = a.0; judged = a.1 }
+    let a = answer c.args.image.now _ (sym c.in-None.is ∙ c.first_broken.ensures) in record { value = a.0; judged = a.1 }

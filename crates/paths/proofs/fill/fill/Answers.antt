@@ -8,7 +8,7 @@ use Rattle.paths.proofs.fill.fill.Goals as goal
 pub loop-at-preserved : goal.loop-at-preserved
 loop-at-preserved g c =
     filled_more g.V.PathValue.kind (tabled c.args.nodes.now) c.args.order.now c.loop-at.at-index
-    c.loop-at.worths _ _ c.loop-at-test.true c.fill-node.ensures c.loop-at.invariant
+    c.loop-at.worths _ _ c.loop-at-test.true c.fill_node.ensures c.loop-at.invariant
 
 pub returns : goal.returns
 returns g c =

@@ -1,7 +1,7 @@
 // The flat model: a price for each opcode, whatever its operands.
 ghost use Rattle.std.specs.Prelude.{◌≡◌};
 ghost use Rattle.pricing.specs.Flat.{Small, flat};
-ghost use Rattle.std.proofs.Common.{rules, arith};
+ghost use Rattle.std.proofs.Common.{rules};
 
 use crate::model::PriceModel;
 
@@ -25,13 +25,13 @@ impl FlatModel {
 impl PriceModel for FlatModel {
     ghost means = { λ m. flat m.prices };
 
-    ghost spending_within = { first_of (Prim.search rules, Prim.grind (arith, Self.row.coded.inj)) };
+    ghost spending_within = { Prim.search rules };
 
-    ghost saving_within = { first_of (Prim.search rules, Prim.grind (arith, Self.row.coded.inj)) };
+    ghost saving_within = { Prim.search rules };
 
-    ghost most_small = { first_of (Prim.search rules, Prim.grind (arith, Self.row.coded.inj)) };
+    ghost most_small = { Prim.search rules };
 
-    ghost dearest_small = { first_of (Prim.search rules, Prim.grind (arith, Self.row.coded.inj)) };
+    ghost dearest_small = { Prim.search rules };
 
     fn most(&self, opcode: u8, _imm: i32) -> u32 {
         self.prices[opcode as usize] as u32

@@ -3,7 +3,7 @@ ghost use Rattle.std.specs.Prelude.{◌≡◌};
 ghost use Rattle.supply.specs.Ratings.{ratings_of};
 ghost use Rattle.supply.specs.Capacitor.{condition_of, Made, Drew, filled, four_in};
 ghost use Rattle.supply.specs.Drawing.{keeps_meaning};
-ghost use Rattle.std.proofs.Common.{rules, arith};
+ghost use Rattle.std.proofs.Common.{rules};
 
 use super::Capacitor;
 use crate::answer::Answer;
@@ -44,7 +44,7 @@ impl Supply for Capacitor {
 
     ghost drawn = { λ s t n a d. keeps_meaning s t n a d };
 
-    ghost recharged = { first_of (Prim.search rules, Prim.grind (arith, Self.row.coded.inj)) };
+    ghost recharged = { Prim.search rules };
 
     fn budget(&self) -> u64 {
         self.ratings.units_in(self.ratings.full())

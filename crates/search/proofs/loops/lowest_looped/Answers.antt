@@ -3,4 +3,4 @@ use Rattle.search.proofs.Reaching.{loop_below}
 use Rattle.search.proofs.loops.lowest_looped.Goals as goal
 
 pub returns : goal.returns
-returns c n l = c.loop-node.invariant n (omega (arith, loop_below c.args.nodes.now n l.on-loop)) l
+returns c n l = c.loop-node.invariant n (omega (arith, loop_below c.args.nodes.now n l.on_loop)) l

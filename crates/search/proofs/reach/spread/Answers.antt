@@ -16,7 +16,7 @@ loop-node-smaller c = let h = next_place c.loop-node.invariant c.in-Some.ensures
 
 pub loop-node-preserved : goal.loop-node-preserved
 loop-node-preserved c =
-    goes_on c.loop-node.invariant c.in-Some.ensures c.ways-within-first.ensures c.add.ensures c.add-in-Some.ensures
+    goes_on c.loop-node.invariant c.in-Some.ensures c.ways_within-first.ensures c.add.ensures c.add-in-Some.ensures
 
 pub returns : goal.returns
-returns c = told c.args.nodes.now c.told-nodes c.loop-node.invariant (sym c.in-default.is ∙ c.get.ensures)
+returns c = told c.args.nodes.now c.told-nodes c.loop-node.invariant (sym c.in_default.is ∙ c.get.ensures)

@@ -8,8 +8,8 @@ loop-node-init c = begins c.requires
 pub bounds-nodes-node : goal.bounds-nodes-node
 bounds-nodes-node c = next_below c.loop-node.invariant c.in-Some.ensures
 
-pub overflow-add-next : goal.overflow-add-next
-overflow-add-next c = let h = next_place c.loop-node.invariant c.in-Some.ensures in omega arith
+pub overflow_add-next : goal.overflow_add-next
+overflow_add-next c = let h = next_place c.loop-node.invariant c.in-Some.ensures in omega arith
 
 pub loop-node-smaller : goal.loop-node-smaller
 loop-node-smaller c = let h = next_place c.loop-node.invariant c.in-Some.ensures in omega arith

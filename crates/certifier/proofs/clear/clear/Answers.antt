@@ -4,7 +4,7 @@ use Rattle.certifier.proofs.clear.clear.Goals as goal
 
 pub loop-at-preserved : goal.loop-at-preserved
 loop-at-preserved g c =
-    cleared_more g.V.PathValue.kind c.args.worths.now c.loop-at.worths c.loop-at.at c.clear-at.new.worths (omega arith) c.clear-at.ensures c.loop-at.invariant
+    cleared_more g.V.PathValue.kind c.args.worths.now c.loop-at.worths c.loop-at.at c.clear_at.new.worths (omega arith) c.clear_at.ensures c.loop-at.invariant
 
 pub returns : goal.returns
 returns g c =

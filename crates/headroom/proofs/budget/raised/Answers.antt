@@ -10,6 +10,6 @@ returns g c =
     record {
       some = i.0;
       most = i.1;
-      accepted = λ b h k. accepted_more m image c.loop-price.budget b 1024 c.in-default.ensures h k;
+      accepted = λ b h k. accepted_more m image c.loop-price.budget b 1024 c.in_default.ensures h k;
       refused = i.2;
     }

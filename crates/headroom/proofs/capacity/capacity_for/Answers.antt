@@ -5,14 +5,14 @@ use Rattle.headroom.specs.Capacity.{rated}
 use Rattle.headroom.proofs.Capacities.{some_product, squares_apart, from_least}
 use Rattle.headroom.proofs.capacity.capacity_for.Goals as goal
 
-pub overflow-sub-each : goal.overflow-sub-each
-overflow-sub-each c = let h = squares_apart c.args.bottom c.args.top c.requires.within.apart in omega arith
+pub overflow_sub-each : goal.overflow_sub-each
+overflow_sub-each c = let h = squares_apart c.args.bottom c.args.top c.requires.within.apart in omega arith
 
-pub overflow-sub-capacity : goal.overflow-sub-capacity
-overflow-sub-capacity c = some_product c.args.budget c.args.unit c.requires.some c.requires.within.some_unit
+pub overflow_sub-capacity : goal.overflow_sub-capacity
+overflow_sub-capacity c = some_product c.args.budget c.args.unit c.requires.some c.requires.within.some_unit
 
-pub nonzero-div-capacity : goal.nonzero-div-capacity
-nonzero-div-capacity c = let h = squares_apart c.args.bottom c.args.top c.requires.within.apart in omega arith
+pub nonzero_div-capacity : goal.nonzero_div-capacity
+nonzero_div-capacity c = let h = squares_apart c.args.bottom c.args.top c.requires.within.apart in omega arith
 
 pub returns-then-capacity-le-MOST-CAPACITY : goal.returns-then-capacity-le-MOST-CAPACITY
 returns-then-capacity-le-MOST-CAPACITY c =

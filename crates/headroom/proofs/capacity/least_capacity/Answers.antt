@@ -25,19 +25,19 @@ returns-in-Err g c =
       left = left_refused (graph_of m image) old c.in-Err.refusal (ap of_walks made.1);
     }
 
-pub returns-in-Ok-least-budget : goal.returns-in-Ok-least-budget
-returns-in-Ok-least-budget g c =
+pub returns-in-Ok-least_budget : goal.returns-in-Ok-least_budget
+returns-in-Ok-least_budget g c =
     let m = g.M.PriceModel.means c.args.model.now in
     let image = c.args.image.now in
-    let found = c.in-Ok-least-budget.ensures in
+    let found = c.in-Ok-least_budget.ensures in
     record {
       least =
-          told c.args.top c.args.bottom c.args.unit m image (length c.args.working.now) c.in-Ok-least-budget.budget found.least
-          c.in-Ok.ensures.0 c.capacity-for.result c.capacity-for.ensures;
+          told c.args.top c.args.bottom c.args.unit m image (length c.args.working.now) c.in-Ok-least_budget.budget found.least
+          c.in-Ok.ensures.0 c.capacity_for.result c.capacity_for.ensures;
       left = found.left;
     }
 
-pub returns-in-Err-least-budget : goal.returns-in-Err-least-budget
-returns-in-Err-least-budget g c =
-    let refused = c.in-Err-least-budget.ensures in
+pub returns-in-Err-least_budget : goal.returns-in-Err-least_budget
+returns-in-Err-least_budget g c =
+    let refused = c.in-Err-least_budget.ensures in
     record { least = image_refused refused.least; left = refused.left }

@@ -13,15 +13,15 @@ returns-in-Ok g c =
     let room = length c.args.working.now in
     let p = placement_of m before budget in
     let passes : Ok tt ≡ admission before budget room = sym c.in-Ok.is ∙ c.admit.ensures.value in
-    let value : c.place-lawful.result ≡ placing m before budget room =
-    c.place-lawful.ensures.value ∙ ap (λ (a : Result (Unit {0}) Refusal). and_then a (answer_by p)) passes in
-    let image : c.place-lawful.new.image ≡ placed_image m before budget room =
-    c.place-lawful.ensures.image ∙ ap (λ (a : Result (Unit {0}) Refusal). left_by a (image_by p before) before) passes in
+    let value : c.place_lawful.result ≡ placing m before budget room =
+    c.place_lawful.ensures.value ∙ ap (λ (a : Result (Unit {0}) Refusal). and_then a (answer_by p)) passes in
+    let image : c.place_lawful.new.image ≡ placed_image m before budget room =
+    c.place_lawful.ensures.image ∙ ap (λ (a : Result (Unit {0}) Refusal). left_by a (image_by p before) before) passes in
     record {
       value = value;
       image = image;
-      meaning = meaning m before budget room c.place-lawful.new.image c.place-lawful.result value image;
-      left = c.place-lawful.ensures.left;
+      meaning = meaning m before budget room c.place_lawful.new.image c.place_lawful.result value image;
+      left = c.place_lawful.ensures.left;
     }
 
 pub returns-in-Err : goal.returns-in-Err

@@ -26,10 +26,10 @@ returns-in-Err g c =
     let b = c.in-Err.refusal in
     let t = at_err m before c.args.budget (length old) c.requires c.turn-idle.result c.turn-idle.ensures.marks c.turn-idle.new.image after c.turn-idle.ensures.turned c.settle.ensures
     b c.undo.new.image (sym c.certify.ensures.value ∙ c.in-Err.is) c.undo.ensures in
-    let carried : Err c.no-placement.result ≡ unplaced _ = c.no-placement.ensures _ t.result in
+    let carried : Err c.no_placement.result ≡ unplaced _ = c.no_placement.ensures _ t.result in
     record {
       value = carried ∙ t.value;
       image = t.image;
-      left = left_refused m before after c.undo.new.image old c.certify.new.working _ c.certify.result (Err c.no-placement.result)
+      left = left_refused m before after c.undo.new.image old c.certify.new.working _ c.certify.result (Err c.no_placement.result)
           t.refuses (t.result ∙ sym c.in-Err.is) carried t.turned c.certify.ensures.left;
     }

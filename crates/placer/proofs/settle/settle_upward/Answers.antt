@@ -13,7 +13,7 @@ loop-at-init g c =
 pub loop-at-preserved : goal.loop-at-preserved
 loop-at-preserved g c =
     settled_more (g.M.PriceModel.means c.args.model.now) c.args.budget c.args.marks.now (slot_count c.args.image.now)
-    c.loop-at.at c.loop-at.image c.settle-at.new.image (omega arith) (cc)
+    c.loop-at.at c.loop-at.image c.settle_at.new.image (omega arith) (cc)
     ∙ c.loop-at.invariant
 
 pub returns : goal.returns

@@ -6,4 +6,4 @@ pub loop-at-preserved : goal.loop-at-preserved
 loop-at-preserved c =
     let at = c.loop-at.at in
     let marks = c.args.marks.now in
-    rw add-one (c.undo-at.ensures ∙ ap (λ (xs : List ℕ). cond (get_or marks at false) (with_bytes xs at idle_bytes) xs) c.loop-at.invariant)
+    rw add-one (c.undo_at.ensures ∙ ap (λ (xs : List ℕ). cond (get_or marks at false) (with_bytes xs at idle_bytes) xs) c.loop-at.invariant)

@@ -4,4 +4,4 @@ use Rattle.placer.proofs.trial.accepted.Goals as goal
 
 pub returns : goal.returns
 unfolding accepts
-returns g c = c.is-ok.ensures.value ∙ ap is_ok c.verdict.ensures.value
+returns g c = c.is_ok.ensures.value ∙ ap is_ok c.verdict.ensures.value

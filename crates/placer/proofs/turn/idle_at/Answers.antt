@@ -6,4 +6,4 @@ use Rattle.placer.proofs.turn.idle_at.Goals as goal
 
 pub returns : goal.returns
 unfolding role_at
-returns c = c.is-idle.ensures ∙ ap (λ (o : Option Instruction). is_idle (role_in o)) c.instruction-at.ensures.value
+returns c = c.is_idle.ensures ∙ ap (λ (o : Option Instruction). is_idle (role_in o)) c.instruction_at.ensures.value

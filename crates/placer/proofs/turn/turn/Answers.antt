@@ -11,7 +11,7 @@ loop-at-init c = (sym (turned_start c.args.image.now), record { size = refl; hol
 
 pub loop-at-preserved : goal.loop-at-preserved
 loop-at-preserved c =
-    let t = turned_more c.args.image.now c.loop-at.at (omega arith) c.loop-at.image c.turn-at.new.image c.turn-at.result c.loop-at.invariant.0 c.turn-at.ensures.value c.turn-at.ensures.turned in
+    let t = turned_more c.args.image.now c.loop-at.at (omega arith) c.loop-at.image c.turn_at.new.image c.turn_at.result c.loop-at.invariant.0 c.turn_at.ensures.value c.turn_at.ensures.turned in
     (t.1, table_put _ _ _ _ _ (omega arith) t.0 c.loop-at.invariant.1)
 
 pub returns : goal.returns

@@ -10,5 +10,5 @@ returns g c =
     record {
       next_is = c.step-effect.ensures.left;
       amount_is = search rules;
-      saves_is = c.is-save.ensures ∙ ap is_save told;
+      saves_is = c.is_save.ensures ∙ ap is_save told;
     }

@@ -4,4 +4,4 @@ use Rattle.tables.proofs.Tabling.{table_put}
 use Rattle.tables.proofs.start.way_table.Goals as goal
 
 pub loop-at-preserved : goal.loop-at-preserved
-loop-at-preserved c = table_put _ _ _ _ _ (omega arith) (c.way-node.ensures ∙ ap (way_node c.loop-at.at) c.instruction-at.ensures.value) c.loop-at.invariant
+loop-at-preserved c = table_put _ _ _ _ _ (omega arith) (c.way_node.ensures ∙ ap (way_node c.loop-at.at) c.instruction_at.ensures.value) c.loop-at.invariant

@@ -7,7 +7,7 @@ use Rattle.tables.proofs.Tabling.{table_put}
 use Rattle.tables.proofs.walk.walk_table.Goals as goal
 
 pub loop-at-preserved : goal.loop-at-preserved
-loop-at-preserved g c = table_put _ _ _ _ _ (omega arith) (c.walk-node.ensures ∙ ap (walk_node (g.M.PriceModel.means c.args.model.now) c.loop-at.at) c.instruction-at.ensures.value) c.loop-at.invariant
+loop-at-preserved g c = table_put _ _ _ _ _ (omega arith) (c.walk_node.ensures ∙ ap (walk_node (g.M.PriceModel.means c.args.model.now) c.loop-at.at) c.instruction_at.ensures.value) c.loop-at.invariant
 
 pub returns : goal.returns
 returns g c =

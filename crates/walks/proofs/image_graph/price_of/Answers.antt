@@ -10,7 +10,7 @@ priced p r s a b x y e role most saving = cc
 pub returns : goal.returns
 returns g c =
     record {
-      price = priced _ _ _ _ _ _ _ c.price-by.ensures c.role.ensures c.most-of.ensures c.dearest.ensures;
+      price = priced _ _ _ _ _ _ _ c.price_by.ensures c.role.ensures c.most_of.ensures c.dearest.ensures;
       sound = lawful_sound;
       small = lawful_small;
     }

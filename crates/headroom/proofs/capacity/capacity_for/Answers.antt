@@ -14,19 +14,19 @@ overflow_sub-capacity c = some_product c.args.budget c.args.unit c.requires.some
 pub nonzero_div-capacity : goal.nonzero_div-capacity
 nonzero_div-capacity c = let h = squares_apart c.args.bottom c.args.top c.requires.within.apart in omega arith
 
-pub returns-then-capacity-le-MOST-CAPACITY : goal.returns-then-capacity-le-MOST-CAPACITY
-returns-then-capacity-le-MOST-CAPACITY c =
+pub returns-then-capacity-le-MOST_CAPACITY : goal.returns-then-capacity-le-MOST_CAPACITY
+returns-then-capacity-le-MOST_CAPACITY c =
     let apart = squares_apart c.args.bottom c.args.top c.requires.within.apart in
     let each : 0 < c.args.top * c.args.top - c.args.bottom * c.args.bottom = omega arith in
     let some = some_product c.args.budget c.args.unit c.requires.some c.requires.within.some_unit in
     record {
       some = omega arith;
-      most = c.if-capacity-le-MOST-CAPACITY.true;
+      most = c.if-capacity-le-MOST_CAPACITY.true;
       from = from_least c.args.top c.args.bottom c.args.unit c.args.budget c.requires.within.some_unit each some;
     }
 
-pub returns-else-capacity-le-MOST-CAPACITY : goal.returns-else-capacity-le-MOST-CAPACITY
-returns-else-capacity-le-MOST-CAPACITY c d h =
+pub returns-else-capacity-le-MOST_CAPACITY : goal.returns-else-capacity-le-MOST_CAPACITY
+returns-else-capacity-le-MOST_CAPACITY c d h =
     let apart = squares_apart c.args.bottom c.args.top c.requires.within.apart in
     let each : 0 < c.args.top * c.args.top - c.args.bottom * c.args.bottom = omega arith in
     let some = some_product c.args.budget c.args.unit c.requires.some c.requires.within.some_unit in

@@ -1,5 +1,5 @@
 -- The whole answer: equal to its definition, and meaning what it says of walks.
-use Rattle.std.proofs.Common.{◌≡◌, ℕ, ◌*◌, true, false, ◌↔◌, List, Ok, Err, Result, sym, refl, ap, ◌∙◌, true≢false}
+use Rattle.std.proofs.Common.{◌≡◌, ℕ, ◌*◌, true, ◌↔◌, List, Ok, Err, Result, sym, refl, ap, ◌∙◌, true≢false}
 use mathlib.Core.Path.{subst⁻¹}
 use Rattle.isa.specs.declared.refusal.Refusal.{Refusal}
 use Rattle.isa.specs.declared.refusal.Refusal.TheVariants.{Loop, OverBudget}

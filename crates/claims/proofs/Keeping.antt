@@ -10,7 +10,7 @@ use Rattle.walks.specs.Acceptance.{Accepted}
 use Rattle.walks.proofs.Clash.{clash}
 use Rattle.claims.specs.declared.reply.Attempt.{Attempt}
 use Rattle.claims.specs.Machine.{Machine, Obeys}
-use Rattle.claims.specs.Rig.{Rig, attempt_limit, Begun, Fell, WasCut, Stepped, Stepped.refused_attempts, Stepped.went, Stepped.fell, CutDone, CutDone.refused_cuts, CutDone.done}
+use Rattle.claims.specs.Rig.{Rig, attempt_limit, Begun, Fell, WasCut, Stepped, CutDone}
 use Rattle.claims.proofs.Invariant.{Keeps, rebuilt, Tried.not_yet, Tried.to, Fresh, Spared, Alive, Over, Invariant, few_charges}
 use Rattle.claims.proofs.Going.{affordable, went_either, one_more}
 

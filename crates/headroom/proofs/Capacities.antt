@@ -1,10 +1,10 @@
 -- A quotient rounded up is the least number whose product reaches another, and so the least capacity that holds a budget.
-use Rattle.std.proofs.Common.{◌≡◌, ℕ, ◌+◌, ◌-◌, ◌*◌, ◌/◌, ◌<◌, ◌≤◌, min, ◌↔◌, List, Some, None, Ok, Err, Option, sym, subst, lt_of_le_of_lt, div-lt_iff_lt-mul, mul-le-mul_left, mul-lt-mul_of_pos_right, mul-pos, le-div_iff_mul-le, arith}
+use Rattle.std.proofs.Common.{ℕ, ◌+◌, ◌-◌, ◌*◌, ◌/◌, ◌<◌, ◌≤◌, min, ◌↔◌, List, Some, None, Ok, Option, lt_of_le_of_lt, div-lt_iff_lt-mul, mul-le-mul_left, mul-lt-mul_of_pos_right, mul-pos, le-div_iff_mul-le, arith}
 use native.Mathlib.Nat.{mul-sub}
 use Rattle.pricing.specs.Model.{Model}
 use Rattle.supply.specs.Ratings.{Within, budget_of}
 use Rattle.headroom.specs.Budget.{most_budget, LeastBudget}
-use Rattle.headroom.specs.Capacity.{rated, EnoughFrom, Enough, Fits, CapacityTold}
+use Rattle.headroom.specs.Capacity.{rated, Enough, Fits, CapacityTold}
 
 pub some_product : (b unit : ℕ) → 1 ≤ b → 1 ≤ unit → 1 ≤ b * (2 * unit)
 some_product b unit h k = mul-pos h (let two : 0 < 2 * unit = omega arith in two)

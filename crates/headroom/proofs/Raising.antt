@@ -1,9 +1,9 @@
 -- What is accepted at a budget is accepted at a larger one, and a refusal over budget tells a price below which nothing is.
-use Rattle.std.proofs.Common.{◌≡◌, ℕ, ◌<◌, ◌≤◌, Bool, cond, List, ◌∷◌, Ok, Err, Result, sym, refl, ap, ◌∙◌, subst, lt_of_lt_of_le, lt_of_le_of_lt, arith}
+use Rattle.std.proofs.Common.{◌≡◌, ℕ, ◌<◌, ◌≤◌, Bool, cond, List, ◌∷◌, Err, Result, refl, ap, lt_of_lt_of_le, lt_of_le_of_lt, arith}
 use mathlib.Core.Path.{subst⁻¹}
 use Rattle.std.proofs.lemmas.Bool.{le-leb}
 use Rattle.isa.specs.declared.refusal.Refusal.{Refusal}
-use Rattle.isa.specs.declared.refusal.Refusal.TheVariants.{Budget, Loop, OverBudget, WorkingList}
+use Rattle.isa.specs.declared.refusal.Refusal.TheVariants.{Budget, OverBudget, WorkingList}
 use Rattle.isa.specs.Lawful.{lawfulness}
 use Rattle.isa.specs.Refusal.{told_of}
 use Rattle.pricing.specs.Model.{Model}
@@ -13,10 +13,10 @@ use Rattle.walks.specs.Acceptance.{Accepted, TooDear, Answer, accepted, loop, ov
 use Rattle.walks.specs.Certified.{certified}
 use Rattle.walks.specs.ImageGraph.{graph_of}
 use Rattle.walks.proofs.Clash.{clash}
-use Rattle.certifier.specs.Certify.{within_limits, result_of, and_then, admission, certification, InOrder, Meaning}
+use Rattle.certifier.specs.Certify.{within_limits, result_of, and_then, certification, InOrder, Meaning}
 use Rattle.certifier.proofs.Admitting.{admitted}
 use Rattle.certifier.proofs.Certifying.{meaning}
-use Rattle.headroom.specs.Budget.{most_budget, AcceptedAt, LeastBudget, NoBudget, Dearer}
+use Rattle.headroom.specs.Budget.{most_budget, AcceptedAt, NoBudget, Dearer}
 
 module _ (m : Model) (image : List ℕ) where
   abbrev g : Graph

@@ -1,11 +1,11 @@
 -- What the answer on an image means.
-use Rattle.std.proofs.Common.{◌≡◌, ℕ, ◌<◌, ◌≤◌, Bool, true, false, cond, ◌&&◌, ltb, ◌⊎◌, List, ℤ, pos, negsuc, Some, None, Ok, Err, Option, Result, sym, refl, ap, ◌∙◌, subst, inl, inr, ⊎_elim, arith}
+use Rattle.std.proofs.Common.{◌≡◌, ℕ, ◌<◌, ◌≤◌, Bool, true, false, cond, List, ℤ, pos, negsuc, Some, None, Ok, Err, Option, Result, sym, refl, ap, ◌∙◌, subst, ⊎_elim, arith}
 use Rattle.std.specs.Result.{result_err, result_ok}
 use Rattle.std.proofs.lemmas.Bool.{and_parts, and_from, ltb-true, lt-ltb, le-ltb, cond-true, cond-false, cases_Bool, cases_lt}
 use Rattle.isa.specs.declared.instruction.Instruction.{Instruction}
 use Rattle.isa.specs.declared.refusal.Refusal.{Refusal}
-use Rattle.isa.specs.declared.refusal.Refusal.TheVariants.{Length, WayOut}
-use Rattle.isa.specs.First.{or_else, first_below, First}
+use Rattle.isa.specs.declared.refusal.Refusal.TheVariants.{Length}
+use Rattle.isa.specs.First.{or_else, first_below}
 use Rattle.isa.specs.Slot.{slot_count, slot_at, fields_of}
 use Rattle.isa.specs.Instruction.{ways_out}
 use Rattle.isa.specs.Rule.{decoded}

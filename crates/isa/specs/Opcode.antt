@@ -4,7 +4,7 @@
 --     under n table                       the entry under a number
 --     arithmetic w o, branch w o, access o     the meaning of a byte of such a class
 --     kind_of o                            the meaning of any byte, or none
-use Rattle.std.specs.Prelude.{ℕ, ◌/◌, ◌%◌, Bool, true, false, cond, List, [], ◌∷◌, Some, None, Option, ◌==◌}
+use Rattle.std.specs.Prelude.{ℕ, ◌/◌, ◌%◌, cond, List, [], ◌∷◌, Some, None, Option, ◌==◌}
 use Rattle.std.specs.Option.{option_map}
 use Rattle.isa.specs.First.{or_else}
 use Rattle.isa.specs.declared.kind.Width.{Width}

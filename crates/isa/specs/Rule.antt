@@ -6,7 +6,7 @@
 --     helper_known k s          CALL names a helper that there is
 --     fault_of k s i            the first of these rules that slot i breaks
 --     decoded s i              the instruction at slot i, or the first rule that it breaks, the opcode before all others
-use Rattle.std.specs.Prelude.{ℕ, Bool, true, false, cond, not, ◌&&◌, ◌||◌, is_some, Some, None, Ok, Err, Option, Result, ◌==◌, nat_le}
+use Rattle.std.specs.Prelude.{ℕ, Bool, true, false, not, ◌&&◌, ◌||◌, is_some, Some, None, Err, Option, Result, ◌==◌, nat_le}
 use Rattle.isa.specs.declared.kind.Operation.{Operation}
 use Rattle.isa.specs.declared.kind.Operation.TheVariants as operation
 use Rattle.isa.specs.declared.kind.Source.{Source}

@@ -3,7 +3,7 @@
 --     written_by x z, read_by x z     the place that a store writes, and the one that a load reads
 --     second_of x s w   the second operand
 --     text_of x         the whole instruction
-use Rattle.std.specs.Prelude.{ℕ, true, false, cond, List, ◌++◌, codes, decimal}
+use Rattle.std.specs.Prelude.{ℕ, cond, List, ◌++◌, codes, decimal}
 use Rattle.std.specs.Fmt.{signed_decimal}
 use Rattle.isa.specs.declared.kind.Width.{Width}
 use Rattle.isa.specs.declared.kind.Width.TheVariants.{Full64}

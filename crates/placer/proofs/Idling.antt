@@ -16,7 +16,7 @@ use Rattle.isa.specs.declared.kind.Kind.TheVariants as kind
 use Rattle.isa.specs.declared.helper.Helper.{Helper}
 use Rattle.isa.specs.declared.helper.Helper.TheVariants as helper
 use Rattle.isa.specs.declared.instruction.Instruction.{Instruction}
-use Rattle.isa.specs.declared.instruction.Role.TheVariants.{Save, Idle, Exit, Other}
+use Rattle.isa.specs.declared.instruction.Role.TheVariants.{Idle, Other}
 use Rattle.isa.specs.declared.refusal.Refusal.{Refusal}
 use Rattle.isa.specs.Opcode.{kind_of, class_of, source_of, code_of, under, operations, negation, arithmetic, branch, access, classes, singles, joined}
 use Rattle.isa.specs.Helper.{holds, helper_of}

@@ -3,7 +3,7 @@ use Rattle.std.proofs.Common.{◌≡◌, ℕ, ◌/◌, Bool, true, false, List, 
 use Rattle.std.proofs.lemmas.Bool.{cond-true, cond-false}
 use Rattle.isa.specs.declared.refusal.Unplaceable.TheVariants as unplaceable
 use Rattle.isa.specs.declared.refusal.Refusal.{Refusal}
-use Rattle.isa.specs.declared.refusal.Refusal.TheVariants.{Loop, OverBudget, NoPlacement}
+use Rattle.isa.specs.declared.refusal.Refusal.TheVariants.{Loop, NoPlacement}
 use Rattle.isa.specs.Slot.{slot_count}
 use Rattle.pricing.specs.Model.{Model}
 use Rattle.paths.specs.declared.worth.Worth.{Worth}

@@ -2,6 +2,6 @@
 #![tactic(auto)]
 
 #[cfg(test)]
-mod paths;
+mod path_values;
 #[cfg(test)]
 mod prices;

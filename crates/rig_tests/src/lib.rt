@@ -5,13 +5,13 @@
 mod alike;
 #[cfg(test)]
 mod cases;
-#[cfg(test)]
-mod claims;
 mod hostile;
 #[cfg(test)]
 mod mains;
 #[cfg(test)]
 mod refusals;
+#[cfg(test)]
+mod run_claims;
 #[cfg(test)]
 mod starred;
 #[cfg(test)]

@@ -4,7 +4,7 @@
 --     Sorted g starts order        an order of the nodes that the starts reach
 --     Searched g starts outcome    what an outcome says: an order, and no node that the starts reach lies on a loop;
 --                                  or some node that they reach does
-use Rattle.std.specs.Prelude.{◌≡◌, ℕ, ◌<◌, Bool, ◌↔◌, List, length, ◌≢◌, slice_index}
+use Rattle.std.specs.Prelude.{ℕ, ◌<◌, Bool, ◌↔◌, List, length, ◌≢◌, slice_index}
 use Rattle.paths.specs.Net.{Net, In, Listed}
 use Rattle.search.specs.declared.order.Outcome.{Outcome}
 use Rattle.search.specs.declared.order.Outcome.TheVariants.{Ordered, Looping}

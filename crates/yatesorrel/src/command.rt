@@ -61,14 +61,14 @@ fn read_list(words: &[String]) -> anyhow::Result<Command> {
         [_, file] => Ok(Command::List {
             file: file.clone()?,
         }),
-        _ => Err(LIST_USE.into()),
+        _ => Err(anyhow!(LIST_USE)),
     }
 }
 
 fn read_number(word: &str, wrong: &str) -> anyhow::Result<u64> {
     match word.parse::<u64>() {
         Ok(number) => Ok(number),
-        Err(_) => Err(wrong.into()),
+        Err(_) => Err(anyhow!(wrong)),
     }
 }
 
@@ -80,7 +80,7 @@ fn read_certify(words: &[String]) -> anyhow::Result<Command> {
             budget,
             Some(prices.clone()?),
         ),
-        _ => return Err(CERTIFY_USE.into()),
+        _ => return Err(anyhow!(CERTIFY_USE)),
     };
     let budget = read_number(budget.as_str(), BUDGET_USE)?;
     Ok(Command::Certify {
@@ -99,7 +99,7 @@ fn read_place(words: &[String]) -> anyhow::Result<Command> {
             out,
             Some(prices.clone()?),
         ),
-        _ => return Err(PLACE_USE.into()),
+        _ => return Err(anyhow!(PLACE_USE)),
     };
     let budget = read_number(budget.as_str(), BUDGET_USE)?;
     Ok(Command::Place {
@@ -128,7 +128,7 @@ fn take_option(options: &mut Options, name: &str, value: &String) -> anyhow::Res
         "--steps" => options.steps = read_number(value.as_str(), "--steps takes a number")?.min(
             MOST_STEPS,
         ),
-        _ => return Err(RUN_USE.into()),
+        _ => return Err(anyhow!(RUN_USE)),
     }
     Ok(())
 }
@@ -142,7 +142,7 @@ fn read_options(heap: Global, words: &[String]) -> anyhow::Result<Options> {
     for pair in words.chunks(2) {
         match pair {
             [name, value] => take_option(&mut options, name.as_str(), value)?,
-            _ => return Err(RUN_USE.into()),
+            _ => return Err(anyhow!(RUN_USE)),
         }
     }
     Ok(options)
@@ -150,7 +150,7 @@ fn read_options(heap: Global, words: &[String]) -> anyhow::Result<Options> {
 
 fn read_run(heap: Global, words: &[String]) -> anyhow::Result<Command> {
     let [_, file, tape, supply, rest @ ..] = words else {
-        return Err(RUN_USE.into());
+        return Err(anyhow!(RUN_USE));
     };
     let source = read_source(supply.as_str())?;
     let options = read_options(heap, rest)?;

@@ -28,6 +28,7 @@ use pricing::operand::OperandModel;
 use rehearsal::script;
 use run::run as run_round;
 use std::fs;
+use std::process::ExitCode;
 use supplies::Source;
 use tape::read_tape;
 use verdict::Verdict;
@@ -164,13 +165,13 @@ fn obey(rt: &HostRuntime) -> anyhow::Result<Verdict> {
     }
 }
 
-fn main(rt: HostRuntime) -> anyhow::Result<()> {
+fn main(rt: HostRuntime) -> ExitCode {
     match obey(&rt) {
-        Ok(Verdict::Passed) => Ok(()),
-        Ok(Verdict::Refused) => Err(anyhow!("refused")),
+        Ok(Verdict::Passed) => ExitCode::SUCCESS,
+        Ok(Verdict::Refused) => ExitCode::FAILURE,
         Err(wrong) => {
             let _ = eprintln!(rt; "yatesorrel: {wrong}");
-            Err(wrong)
+            ExitCode::FAILURE
         }
     }
 }

@@ -2,6 +2,7 @@
 use crate::rehearsal::rehearse_round;
 use crate::supplies::Source;
 use crate::verdict::Verdict;
+use anyhow::anyhow;
 use claims::call::Call;
 use machine::ending::Ending;
 use machine::state::State;
@@ -55,7 +56,7 @@ fn run_at<M: PriceModel>(
             unit,
         } => match Capacitor::new(microfarads, top, bottom, unit) {
             Ok(capacitor) => rehearse_round(rt, capacitor, model, image, tape, calls),
-            Err(_) => Err(LIMITS.into()),
+            Err(_) => Err(anyhow!(LIMITS)),
         },
     }
 }

@@ -1,4 +1,5 @@
 // A supply as the command line names it.
+use anyhow::anyhow;
 
 #[derive(Clone, Copy)]
 pub enum Source {
@@ -17,9 +18,9 @@ fn number(word: Option<&str>) -> anyhow::Result<u32> {
     match word {
         Some(word) => match word.parse::<u32>() {
             Ok(number) => Ok(number),
-            Err(_) => Err(USE.into()),
+            Err(_) => Err(anyhow!(USE)),
         },
-        None => Err(USE.into()),
+        None => Err(anyhow!(USE)),
     }
 }
 
@@ -30,7 +31,7 @@ fn read_capacitor(text: &str) -> anyhow::Result<Source> {
     let bottom = number(words.next())?;
     let unit = number(words.next())?;
     match words.next() {
-        Some(_) => Err(USE.into()),
+        Some(_) => Err(anyhow!(USE)),
         None => Ok(Source::Capacitor {
             microfarads,
             top,
@@ -46,6 +47,6 @@ pub fn read_source(word: &str) -> anyhow::Result<Source> {
     }
     match word.strip_prefix("capacitor:") {
         Some(text) => read_capacitor(text),
-        None => Err(USE.into()),
+        None => Err(anyhow!(USE)),
     }
 }

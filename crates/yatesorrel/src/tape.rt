@@ -1,9 +1,8 @@
 // A tape file: a reading a line.
+use anyhow::anyhow;
 
 // The readings of a tape's text; blank lines and lines that begin with # are
 // passed over.
-use anyhow::anyhow;
-
 pub fn read_tape(rt: &HostRuntime, name: &str, text: &str) -> anyhow::Result<Vec<u32>> {
     let mut tape = Vec::new(rt.alloc());
     let mut number = 0u64;

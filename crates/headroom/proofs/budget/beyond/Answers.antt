@@ -1,5 +1,5 @@
 -- A refusal tells the price of a walk over budget.
-use Rattle.std.proofs.Common.{◌≡◌, ℕ, sym, ◌∙◌}
+use Rattle.std.proofs.Common.{ℕ, sym, ◌∙◌}
 use mathlib.Core.Path.{subst⁻¹}
 use Rattle.headroom.specs.Budget.{Dearer}
 use Rattle.headroom.proofs.Raising.{dearer}

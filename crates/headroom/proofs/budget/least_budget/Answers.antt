@@ -1,5 +1,5 @@
 -- The budget that is found with a list of 1,024 entries is the least with any list that is long enough.
-use Rattle.std.proofs.Common.{◌≡◌, ℕ, List, length, sym, ◌∙◌}
+use Rattle.std.proofs.Common.{ℕ, List, length, sym, ◌∙◌}
 use Rattle.pricing.specs.Model.{Model}
 use Rattle.headroom.specs.Budget.{most_budget, AcceptedAt, LeastBudget}
 use Rattle.headroom.proofs.Raising.{never, roomy}

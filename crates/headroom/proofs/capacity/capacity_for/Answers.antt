@@ -1,5 +1,5 @@
 -- The quotient rounded up is the least capacity that holds the budget.
-use Rattle.std.proofs.Common.{ℕ, ◌+◌, ◌-◌, ◌*◌, ◌/◌, ◌<◌, ◌≤◌, arith}
+use Rattle.std.proofs.Common.{◌-◌, ◌*◌, ◌<◌, ◌≤◌, arith}
 use Rattle.supply.specs.Ratings.{budget_of}
 use Rattle.headroom.specs.Capacity.{rated}
 use Rattle.headroom.proofs.Capacities.{some_product, squares_apart, from_least}

@@ -1,5 +1,5 @@
 -- The least budget says the least capacity, and what refuses one refuses the other.
-use Rattle.std.proofs.Common.{◌≡◌, length, ap, arith}
+use Rattle.std.proofs.Common.{length, ap, arith}
 use mathlib.Core.Path.{subst⁻¹}
 use Rattle.isa.specs.declared.refusal.Refusal.{Refusal}
 use Rattle.walks.specs.ImageGraph.{graph_of}

@@ -1,5 +1,5 @@
 -- The answer is the definition's, and what that means is shown once.
-use Rattle.std.proofs.Common.{◌≡◌, ℕ, List, Option, Result, sym, ap, ◌∙◌, subst}
+use Rattle.std.proofs.Common.{◌≡◌, ℕ, List, Option, sym, ap, ◌∙◌, subst}
 use Rattle.isa.specs.declared.refusal.Refusal.{Refusal}
 use Rattle.isa.specs.Refusal.{ok_unless}
 use Rattle.isa.specs.Lawful.{first_broken, lawfulness, Judged}

@@ -1,6 +1,6 @@
 -- Arithmetic at a width. Assumes nothing.
 --     result_at w o a b     the result of an operation on two numbers of w bits
---     applied w o a b      what it leaves in the register that held a: the result on the low bits, the bits above them cleared
+--     applied w o a b       what it leaves in the register that held a: the result on the low bits, the bits above them cleared
 use Rattle.std.specs.Prelude.{ℕ, ◌+◌, ◌-◌, ◌*◌, ◌/◌, ◌%◌, ◌^◌, cond, ◌==◌, bit_and, bit_or, bit_xor}
 use Rattle.std.specs.Int.Signed.{shr_z}
 use Rattle.std.specs.Int.{Width}

@@ -1,5 +1,5 @@
 -- The tests of conditional jumps at a width. Assumes nothing.
---     holds_at w t a b      whether a test holds of two numbers of w bits
+--     holds_at w t a b     whether a test holds of two numbers of w bits
 --     compared w t a b     whether it holds of the low bits of two registers
 use Rattle.std.specs.Prelude.{ℕ, Bool, not, ◌==◌, bit_and, int_le, int_lt, nat_le, nat_lt}
 use Rattle.std.specs.Int.{Width}

@@ -1,7 +1,7 @@
 -- What certifying an image answers: as a function that computes, and in the words of walks. Assumes nothing.
 --     m, image, budget, room        a price model, an image, a budget, and the length of the working list
---     within_limits budget           the budget is 1 to 100,000,000
---     result_of a                    the answer about a graph, as the call gives it
+--     within_limits budget          the budget is 1 to 100,000,000
+--     result_of a                   the answer about a graph, as the call gives it
 --     admission image budget room     the first check that fails before walks are looked at
 --     certification m image budget room     the answer: that check, and else the answer about the walks
 --     InOrder image budget room     the budget is within its limits, the working list has 1,024 entries, and the image is lawful

@@ -3,7 +3,7 @@
 --     two_slots               an idle slot, and a jump back to it
 --     saved_loop              the same with a save in place of the idle slot
 --     answer_at image budget  the answer by the prices of the operand model, with room for the worths
---     AnswersKnown           the answers about these rounds
+--     AnswersKnown            the answers about these rounds
 use Rattle.std.specs.Prelude.{◌≡◌, ℕ, true, List, [], ◌∷◌, Ok, Err, Result}
 use Rattle.isa.specs.declared.refusal.Refusal.{Refusal}
 use Rattle.isa.specs.declared.refusal.Refusal.TheVariants.{Loop, OverBudget}

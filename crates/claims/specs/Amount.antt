@@ -1,9 +1,9 @@
 -- What a step draws. Assumes nothing.
---     d                        the price model
+--     d                         the price model
 --     spending_of d x           what an instruction spends at its operands
 --     amount_for d e p          what a step of effect e draws with p pending records: a saving for a save or where there is no
---                              instruction, a spending and a saving for another ending, else a spending
---     pending κ σ              the records of σ after the log of the kept state κ
+--                               instruction, a spending and a saving for another ending, else a spending
+--     pending κ σ               the records of σ after the log of the kept state κ
 --     amount_of d image tape κ σ     what the step at σ draws
 use Rattle.std.specs.Prelude.{ℕ, ◌+◌, ◌-◌, List}
 use Rattle.machine.specs.declared.effect.Effect.{Effect}

@@ -1,8 +1,8 @@
 -- The history of a rig: the calls made since it was begun, each with its answer. Assumes nothing.
---     record_or o                   what the question after a record answers, where the log has o
+--     record_or o                  what the question after a record answers, where the log has o
 --     Called G m c r a r'          call c of the rig r answers a, and leaves r'; a question changes nothing
 --     History G m s cs replies r   the rig r, begun on the supply s, after the calls cs with these replies, the oldest first
---     steps_in cs                   how many of the calls ask for a step, refused ones counted
+--     steps_in cs                  how many of the calls ask for a step, refused ones counted
 --     Always P h                   P holds of the calls so far and the rig, at every moment of the history h
 use Rattle.std.specs.Prelude.{◌≡◌, ℕ, ◌+◌, List, [], ◌∷◌, ◌++◌, Some, None, Ok, Err, Option, Result}
 use Rattle.isa.specs.declared.refusal.Refusal.{Refusal}

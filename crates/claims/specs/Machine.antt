@@ -1,12 +1,12 @@
 -- A machine whose steps a supply pays for, seen against the graph that walks go along. Assumes nothing.
---     m.run              the process that it is on the mains
---     m.ending σ         how σ has ended, or none
+--     m.run               the process that it is on the mains
+--     m.ending σ          how σ has ended, or none
 --     m.record_at σ i     the record of that number in the log of σ, or none
---     m.saves σ          the step at σ tells that it was a save
---     m.amount κ σ       what the step at σ draws where κ is the kept state
---     m.graph            the graph, and
---     m.node σ           the node of it where σ stands
---     m.dearest          the most that a saving spends
+--     m.saves σ           the step at σ tells that it was a save
+--     m.amount κ σ        what the step at σ draws where κ is the kept state
+--     m.graph             the graph, and
+--     m.node σ            the node of it where σ stands
+--     m.dearest           the most that a saving spends
 --     StepObeys m σ       what the step at σ keeps
 --     Obeys m             what a machine keeps: its graph, its beginning, and each step that its run takes
 use Rattle.std.specs.Prelude.{◌≡◌, ℕ, ◌+◌, ◌≤◌, Bool, true, false, Option}

@@ -1,18 +1,18 @@
 -- A rig: a machine on a supply that may say no, with the state that it goes back to. Assumes nothing.
---     G                        what a supply of the kind means: its four numbers, its draws and its recharges
---     r.supply                the supply
---     r.state, r.kept        the state, and the kept one that it goes back to
---     r.before                the supply's count of charges from before beginning
+--     G                          what a supply of the kind means: its four numbers, its draws and its recharges
+--     r.supply                   the supply
+--     r.state, r.kept            the state, and the kept one that it goes back to
+--     r.before                   the supply's count of charges from before beginning
 --     r.saves, r.cuts, r.attempts     saves passed, cuts, attempts
 --     attempt_limit, cut_limit   how many attempts and cuts a rig makes
---     Charged G s s'           what begins a charge, at beginning, after a no and at a cut: it makes s' of the supply s
---     begun G r                charges begun: the rise of the supply's own count since before beginning, modulo 2^64
---     Begun G start s r        the rig r is begun on the supply s, at the state start
---     Went G m r r'            the step of r was answered yes, and left r'
---     Fell G m r r'            it was answered no, and left r'
---     WasCut G r r'            the supply of r was cut, which left r'
---     Stepped G m r a r'       a step asked of r answers a, and leaves r'
---     CutDone G ended r a r'   a cut asked of r answers a, and leaves r'; ended tells which states have ended
+--     Charged G s s'             what begins a charge, at beginning, after a no and at a cut: it makes s' of the supply s
+--     begun G r                  charges begun: the rise of the supply's own count since before beginning, modulo 2^64
+--     Begun G start s r          the rig r is begun on the supply s, at the state start
+--     Went G m r r'              the step of r was answered yes, and left r'
+--     Fell G m r r'              it was answered no, and left r'
+--     WasCut G r r'              the supply of r was cut, which left r'
+--     Stepped G m r a r'         a step asked of r answers a, and leaves r'
+--     CutDone G ended r a r'     a cut asked of r answers a, and leaves r'; ended tells which states have ended
 use Rattle.std.specs.Prelude.{◌≡◌, ℕ, ◌+◌, ◌-◌, ◌%◌, ◌^◌, ◌<◌, ◌≤◌, Bool, true, false, cond, ◌||◌, Ok, Err, Result}
 use Rattle.isa.specs.declared.refusal.Refusal.{Refusal}
 use Rattle.isa.specs.declared.refusal.Refusal.TheVariants as refusal

@@ -1,7 +1,7 @@
 -- The machine of a round: an image and a tape under a price model. Assumes nothing.
 --     node_of z               the node of slot z; a round of a lawful image never stands below slot 0
 --     round_of d image tape   the machine
---     RoundObeys             it keeps the laws of a machine, where the model d keeps its own and the image is lawful
+--     RoundObeys              it keeps the laws of a machine, where the model d keeps its own and the image is lawful
 use Rattle.std.specs.Prelude.{ℕ, List, ℤ, pos, negsuc}
 use Rattle.isa.specs.Lawful.{Lawful}
 use Rattle.machine.specs.declared.state.State.{State}

@@ -1,11 +1,11 @@
 -- The least budget at which an image is accepted. Assumes nothing.
 --     m, image, room               a price model, an image, and the length of the working list
---     most_budget                   the largest budget that the certifier takes
+--     most_budget                  the largest budget that the certifier takes
 --     AcceptedAt m image room b    the certifier accepts the image at budget b
 --     LeastBudget m image room b   it does so at b and at every larger budget that it takes, and at none below b
 --     NoBudget m image room r      it does so at no budget, and r is what it answers at the largest
 --     BudgetTold m image room x    the answer x tells the least budget, or that there is none
---     answer_of x                   an answer without what it tells
+--     answer_of x                  an answer without what it tells
 --     Dearer m image b p           a budget below p does not suffice, and p lies above b
 use Rattle.std.specs.Prelude.{◌≡◌, ℕ, ◌<◌, ◌≤◌, List, Ok, Err, Result}
 use Rattle.isa.specs.declared.refusal.Refusal.{Refusal}

@@ -1,6 +1,6 @@
 -- The dearest stretch, read off the worths of a graph's nodes. Assumes nothing.
---     worth_at worths n          the worth that a list has at n; the empty one past its end
---     next_on worths ways        the way out that the dearest list takes: the one with the joined worth, or none
+--     worth_at worths n         the worth that a list has at n; the empty one past its end
+--     next_on worths ways       the way out that the dearest list takes: the one with the joined worth, or none
 --     Charted g nodes worths    a table describes the walks of a graph without loops, and a list has the worths of its nodes
 --     costs g n                 the price of the dearest complete list from n
 --     Goes g n o                o is where the dearest list from n goes on: nowhere from where a walk ends, and else to a node that

@@ -1,7 +1,7 @@
 -- The first answer of a function over the numbers from 0 up. Assumes nothing.
 --     or_else a b         a, or b where a is none
 --     first_below f n     the first answer among f 0 to f (n - 1), or none
---     First f n r        r is that answer, given at some number below n and at none before it
+--     First f n r         r is that answer, given at some number below n and at none before it
 use Rattle.std.specs.Prelude.{◌≡◌, ℕ, zero, suc, ◌<◌, Some, None, Option}
 
 abbrev pub or_else : {A : Type 0} → Option A → Option A → Option A

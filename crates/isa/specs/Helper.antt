@@ -1,6 +1,6 @@
 -- The helpers that a round can call. Assumes nothing.
 --     helper_of imm     the helper under a number: 1 save, 2 next reading, 3 record
---     holds z n        a signed field holds the number n
+--     holds z n         a signed field holds the number n
 use Rattle.std.specs.Prelude.{ℕ, Bool, false, cond, ℤ, pos, negsuc, Some, None, Option, ◌==◌}
 use Rattle.isa.specs.declared.helper.Helper.{Helper}
 use Rattle.isa.specs.declared.helper.Helper.TheVariants.{Save, NextReading, Record}

@@ -1,8 +1,8 @@
 -- What an instruction leads to, and what it is to a round. Assumes nothing.
 --     next_of x, target_of x     the slot after an instruction, and the one that its offset names, counted from the slot after
---     ways_out x                its ways out: the next slot and the target of a jump, each present or not
---     role_of x                 a save, an idle slot, EXIT, or any other
---     Registered x             its registers are among r0 to r10
+--     ways_out x                 its ways out: the next slot and the target of a jump, each present or not
+--     role_of x                  a save, an idle slot, EXIT, or any other
+--     Registered x               its registers are among r0 to r10
 use Rattle.std.specs.Prelude.{◌+◌, ◌≤◌, cond, ℤ, pos, ◌+ℤ◌, Some, None, Option}
 use Rattle.isa.specs.declared.kind.Kind.{Kind}
 use Rattle.isa.specs.declared.kind.Kind.TheVariants.{Arithmetic, Branch, Jump, Call, Exit, Load, StoreImm, StoreReg}

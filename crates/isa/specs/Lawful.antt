@@ -2,10 +2,10 @@
 --     fault_at image i          the rule that slot i breaks by itself
 --     leaving_at image n i      the refusal of slot i where a way out of it leaves an image of n slots
 --     first_broken image        the first rule that an image breaks: its size, then the rules on one slot, then the ways out
---     lawfulness image         the answer: accepted, or refused by that rule
---     Lawful image             an image that keeps every rule
---     Breaks image r           r is the first rule that an image breaks, said without computing it
---     Judged image answer      what an answer means: accepted exactly when lawful, refused by the first rule broken
+--     lawfulness image          the answer: accepted, or refused by that rule
+--     Lawful image              an image that keeps every rule
+--     Breaks image r            r is the first rule that an image breaks, said without computing it
+--     Judged image answer       what an answer means: accepted exactly when lawful, refused by the first rule broken
 use Rattle.std.specs.Prelude.{◌≡◌, ℕ, ◌<◌, Bool, true, false, cond, ◌&&◌, List, ℤ, pos, negsuc, Some, None, Ok, Err, Option, Result, nat_lt}
 use Rattle.std.specs.Result.{result_err}
 use Rattle.isa.specs.declared.slot.Slot.{Slot}

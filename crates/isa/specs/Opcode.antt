@@ -1,9 +1,9 @@
 -- The opcode rules: which bytes are opcodes, and what each of them means. Assumes nothing.
 --     class_of o, code_of o, source_of o     the parts of an opcode byte: its low three bits, its high four, and the bit K or X
---     operations, tests, sizes            the codes of arithmetic, of conditional jumps, and of loads and stores
---     under n table                       the entry under a number
+--     operations, tests, sizes               the codes of arithmetic, of conditional jumps, and of loads and stores
+--     under n table                          the entry under a number
 --     arithmetic w o, branch w o, access o     the meaning of a byte of such a class
---     kind_of o                            the meaning of any byte, or none
+--     kind_of o                              the meaning of any byte, or none
 use Rattle.std.specs.Prelude.{ℕ, ◌/◌, ◌%◌, cond, List, [], ◌∷◌, Some, None, Option, ◌==◌}
 use Rattle.std.specs.Option.{option_map}
 use Rattle.isa.specs.First.{or_else}

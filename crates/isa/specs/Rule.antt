@@ -1,11 +1,11 @@
 -- The rules on one slot, in their order. Assumes nothing.
---     registers_exist s         r0 to r10 are the registers
+--     registers_exist s          r0 to r10 are the registers
 --     must_be_zero k             the fields that a kind of instruction leaves unused
---     zeros_kept k s            those are zero
+--     zeros_kept k s             those are zero
 --     frame_pointer_kept k s     arithmetic and loads do not write r10
---     helper_known k s          CALL names a helper that there is
---     fault_of k s i            the first of these rules that slot i breaks
---     decoded s i              the instruction at slot i, or the first rule that it breaks, the opcode before all others
+--     helper_known k s           CALL names a helper that there is
+--     fault_of k s i             the first of these rules that slot i breaks
+--     decoded s i                the instruction at slot i, or the first rule that it breaks, the opcode before all others
 use Rattle.std.specs.Prelude.{ℕ, Bool, true, false, not, ◌&&◌, ◌||◌, is_some, Some, None, Err, Option, Result, ◌==◌, nat_le}
 use Rattle.isa.specs.declared.kind.Operation.{Operation}
 use Rattle.isa.specs.declared.kind.Operation.TheVariants as operation

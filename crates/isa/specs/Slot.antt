@@ -1,7 +1,7 @@
 -- A slot of an image, as its eight bytes say it. Assumes nothing.
---     image               a list of bytes; its slots are the groups of eight from its beginning
+--     image                a list of bytes; its slots are the groups of eight from its beginning
 --     slot_count image     how many slots an image has
---     little bs           the number that bytes say, the lowest first
+--     little bs            the number that bytes say, the lowest first
 --     fields_of bs         eight bytes taken apart: opcode, dst and src, signed offset, signed imm
 --     slot_at image i      the fields of slot i, or none where there is no such slot
 use Rattle.std.specs.Prelude.{ℕ, ◌+◌, ◌*◌, ◌/◌, ◌%◌, cond, List, [], ◌∷◌, length, Some, None, Option, nat_lt, slice_index}

@@ -1,5 +1,5 @@
 -- A small round whose whole run is known. Assumes nothing.
---     small_round       r1 = 7, the next reading, r2 = r0, an idle slot, a record, EXIT
+--     small_round      r1 = 7, the next reading, r2 = r0, an idle slot, a record, EXIT
 --     Known image      over the tape 5, the run of an image ends by EXIT with its sixth step, and its log is sensor 7 with value 5
 use Rattle.std.specs.Prelude.{◌≡◌, ℕ, List, [], ◌∷◌, Some, None}
 use Rattle.machine.specs.declared.ending.Ending.TheVariants.{Exit}

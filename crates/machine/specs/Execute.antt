@@ -1,10 +1,10 @@
 -- What each kind of instruction does to a state. Assumes nothing.
---     went_on x σ             σ at the slot after an instruction
+--     went_on x σ            σ at the slot after an instruction
 --     jumped x σ             σ at the slot that its offset names
 --     computed w o s x σ     arithmetic: dst becomes the result
 --     branched w t s x σ     a conditional jump: taken where the test holds of dst and the source value
---     read_from z x σ         a load: dst becomes the number at the address, with zeros above it
---     written_to z v x σ      a store of v at the address
+--     read_from z x σ        a load: dst becomes the number at the address, with zeros above it
+--     written_to z v x σ     a store of v at the address
 --     sampled tape x σ       the helper that puts the next reading into r0
 --     recorded x σ           the helper that appends a record of r1 modulo 256 and r2, and clears r0
 --     called tape x σ        CALL: the helper that imm names; a save changes the slot alone

@@ -2,7 +2,7 @@
 --     source_value s x σ     the source value: imm extended by its sign, or the register src
 --     address_of r x σ       a register plus the offset, going round at 64 bits
 --     operands_of k x σ      the two operands that a price may depend on: dst and source value of arithmetic and of a conditional
---                           jump (NEG has no second), address and cut value of a store, r1 and r2 of CALL, else 0 and 0
+--                            jump (NEG has no second), address and cut value of a store, r1 and r2 of CALL, else 0 and 0
 use Rattle.std.specs.Prelude.{ℕ, ◌+◌, ◌%◌, ◌^◌, cond}
 use Rattle.std.specs.Int.{w64}
 use Rattle.std.proofs.Common.{of_z}

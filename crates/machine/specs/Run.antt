@@ -1,6 +1,6 @@
 -- The mains run of an image over a tape: the step iterated from the beginning. Assumes nothing.
 --     mains image tape           the run as a process
---     run_of image tape n         where at most n steps lead, stopping at the ending, and how many they were
+--     run_of image tape n        where at most n steps lead, stopping at the ending, and how many they were
 --     Reached image tape n r     the same said without computing it: r.steps steps of the run lead to r.state, n of them or,
 --                                where the run has ended, fewer
 use Rattle.std.specs.Prelude.{◌≡◌, ℕ, zero, suc, ◌+◌, ◌<◌, ◌≤◌, true, cond, List}

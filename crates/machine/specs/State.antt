@@ -1,5 +1,5 @@
 -- The state of a run. Assumes nothing.
---     initial                 where every run begins: slot 0, r10 at the end of memory, all else 0 or empty
+--     initial                  where every run begins: slot 0, r10 at the end of memory, all else 0 or empty
 --     register_of σ r          the value of a register
 --     moved_to σ z             σ at another slot
 --     with_register σ r v      σ with another value in a register
@@ -7,7 +7,7 @@
 --     with_place σ n           σ at another place of the tape
 --     with_record σ x          σ with one more record in its log
 --     ended_by σ e             σ with an ending, and nothing else changed
---     ended σ                 σ has an ending
+--     ended σ                  σ has an ending
 use Rattle.std.specs.Prelude.{ℕ, ◌+◌, Bool, List, replicate, ℤ, pos, is_some, Some, None, slice_index, slice_set}
 use Rattle.machine.specs.declared.ending.Ending.{Ending}
 use Rattle.machine.specs.declared.state.Record.{Record}

@@ -1,11 +1,11 @@
 -- One step of a run, of any bytes as image, any tape and any state. Assumes nothing.
 --     mains_step image tape σ        the state after a step: the instruction at the slot is executed, or there is none, which is
---                                   trap 1; an ended state stays
+--                                    trap 1; an ended state stays
 --     mains_effect image tape σ      what that step did
 --     is_save e                      that was a save
 --     saves_at image σ               the instruction at the slot is a save
---     LeadsTo x z                   slot z is a way out of an instruction
---     StepLaws image tape σ         what a step leaves as it was, where it leads, and what it tells
+--     LeadsTo x z                    slot z is a way out of an instruction
+--     StepLaws image tape σ          what a step leaves as it was, where it leads, and what it tells
 use Rattle.std.specs.Prelude.{◌≡◌, ℕ, Bool, true, false, cond, ◌⊎◌, List, ℤ, Some, None, Option}
 use Rattle.isa.specs.declared.instruction.Instruction.{Instruction}
 use Rattle.isa.specs.declared.instruction.Role.{Role}

@@ -1,6 +1,6 @@
 -- The worths of the nodes of a net, worked out along an order. Assumes nothing.
 --     worths                a value for each node; the empty value for any past its end
---     worth_at k g xs n      the worths xs of the successors of n joined, extended by n
+--     worth_at k g xs n     the worths xs of the successors of n joined, extended by n
 --     filled k g order xs   the list xs after each node of an order in turn has been given its worth
 --     Untouched order xs ys d         the nodes that an order leaves out have the same value in both lists; d past their ends
 --     OrderOf nodes g order size      an order of nodes below size, each after its successors; a table describes the net at each

@@ -1,5 +1,5 @@
 -- Joins of values, and the values of complete lists. Assumes nothing.
---     join_over k f l        the values that f gives along a list, joined in its order; the empty value where it has none
+--     join_over k f l       the values that f gives along a list, joined in its order; the empty value where it has none
 --     value k g l           the value of a list of nodes: the empty value, extended by them from its end back
 --     Made k f P x          x is joined, in some order, from values f a at which P a holds
 --     JoinOf k f P x        x is the join, in any order, of the values f a of all a at which P a holds

@@ -1,11 +1,11 @@
 -- A kind of path value: what a list of slots is worth. Assumes nothing.
---     PathKind V            a kind whose values are those of V
+--     PathKind V           a kind whose values are those of V
 --     k.empty              the value of no slots
 --     k.join x y           two values joined
 --     k.extend x s p       x extended by slot s at price p
 --     Associative k, Commutative k, Idempotent k     the laws of joining
---     Spreads k             extending a joining equals joining the extended values
---     Laws k                all these
+--     Spreads k            extending a joining equals joining the extended values
+--     Laws k               all these
 use Rattle.std.specs.Prelude.{◌≡◌, ℕ}
 
 pub record PathKind (V : Type 0) : Type 0 where

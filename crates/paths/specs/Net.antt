@@ -1,7 +1,7 @@
 -- The nodes that walks go along, as plain data. Assumes nothing.
---     g.ways n             the successors of node n; none where a walk ends
---     g.price n            the price of a node
---     g.slot n             the slot that a node stands at
+--     g.ways n              the successors of node n; none where a walk ends
+--     g.price n             the price of a node
+--     g.slot n              the slot that a node stands at
 --     In a l                a is an element of a list
 --     Complete g n l        l is a complete list from n: each later node a successor of the one before, the last with none
 --     Listed order p n      n is among the first p nodes of an order

@@ -1,5 +1,5 @@
 -- The kind of path value that is a price. Assumes nothing.
---     added x p             a sum of prices, which stops at 2^64 - 1
+--     added x p              a sum of prices, which stops at 2^64 - 1
 --     price_kind             the kind: joined by the greater
 use Rattle.std.specs.Prelude.{ℕ, ◌+◌, ◌-◌, ◌^◌, min, max}
 use Rattle.paths.specs.declared.price.Price.{Price}

@@ -1,5 +1,5 @@
 -- The kind of path value that is a price with its slot, the one last extended by. Assumes nothing.
---     leads x y             x is the dearer, or has the same price and a slot no greater
+--     leads x y              x is the dearer, or has the same price and a slot no greater
 --     worth_kind             the kind: joined by the greater price, and then by the smaller slot
 use Rattle.std.specs.Prelude.{Bool, cond, ◌&&◌, ◌||◌, ◌==◌, nat_le, nat_lt}
 use Rattle.paths.specs.declared.worth.Worth.{Worth}

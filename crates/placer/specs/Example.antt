@@ -1,7 +1,7 @@
 -- A round whose placements are known. Assumes nothing.
 --     placing_at budget        the answer about the six slots by the prices of the operand model, with room for the worths
 --     left_at budget           the image that is left
---     PlacementsKnown         what placing saves in the six slots does
+--     PlacementsKnown          what placing saves in the six slots does
 use Rattle.std.specs.Prelude.{◌≡◌, ℕ, List, Ok, Err, Result}
 use Rattle.isa.specs.declared.refusal.Unplaceable.TheVariants as unplaceable
 use Rattle.isa.specs.declared.refusal.Refusal.{Refusal}

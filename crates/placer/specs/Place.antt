@@ -1,13 +1,13 @@
 -- What placing saves in an image answers, what it leaves behind, and what that means in the words of walks. Assumes nothing.
---     m, image, budget, room        a price model, an image, a budget, and the length of the working list
+--     m, image, budget, room         a price model, an image, a budget, and the length of the working list
 --     placement_of m image budget    the idle slots that become saves, or the answer that refuses: every idle slot turned into
---                                   a save, and then each of them made idle again, upward, where the image is accepted so
---     unplaced a                    the refusal for want of a placement, which carries the answer a
+--                                    a save, and then each of them made idle again, upward, where the image is accepted so
+--     unplaced a                     the refusal for want of a placement, which carries the answer a
 --     answer_by p, image_by p image       the answer by a placement p, and the image that it leaves
 --     placing m image budget room       the answer: the certifier's checks, and then the placement
 --     placed_image m image budget room   the image that is left: the slots of the placement are saves, or it is as it was
 --     answer_of u                    the answer that a refusal for want of a placement carries
---     Chosen m image budget P       some idle slots: with them turned into saves the image is accepted
+--     Chosen m image budget P        some idle slots: with them turned into saves the image is accepted
 --     Meaning m before budget room after r     what an answer says of the images before and after
 --     Left m before after old new r            what an answer leaves in the working list
 use Rattle.std.specs.Prelude.{◌≡◌, ℕ, Bool, ◌↔◌, List, Ok, Err, Result, ◌≢◌}

@@ -1,7 +1,7 @@
 -- The eight bytes of a slot. Assumes nothing.
 --     bytes_at image i            the bytes of slot i
 --     with_bytes image i bytes    the image with these bytes at slot i
---     idle_bytes, save_bytes       the bytes of an idle slot, and of a save
+--     idle_bytes, save_bytes      the bytes of an idle slot, and of a save
 use Rattle.std.specs.Prelude.{ℕ, ◌+◌, ◌*◌, List, [], ◌∷◌, ◌++◌, take, drop}
 use Rattle.isa.specs.Slot.{byte_of}
 

@@ -1,5 +1,5 @@
 -- An image with some of its idle slots turned into saves. Assumes nothing.
---     P                        a set of slots
+--     P                         a set of slots
 --     idles_in image i          slot i is idle
 --     turns_in P image i        slot i is idle, and one of P
 --     turned_byte P image j     the byte at place j once the idle slots of P are saves

@@ -1,5 +1,5 @@
 -- What a helper adds to the price of its CALL. Assumes nothing.
---     calling h a          what helper h adds when r1 is a: the next reading by the two low bits of a, a record always the same
+--     calling h a           what helper h adds when r1 is a: the next reading by the two low bits of a, a record always the same
 --     calling_most h        the most that it adds
 use Rattle.std.specs.Prelude.{ℕ, ◌+◌, ◌*◌, ◌%◌, Some, None, Option}
 use Rattle.isa.specs.declared.helper.Helper.{Helper}

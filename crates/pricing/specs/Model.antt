@@ -3,10 +3,10 @@
 --     m.spending o imm a b     what it spends at the operands a and b
 --     m.dearest                the most that a saving spends
 --     m.saving p               what a saving with p pending records spends
---     SpendingWithin m          no instruction spends more than its most
---     SavingWithin m            no saving spends more than the dearest
+--     SpendingWithin m         no instruction spends more than its most
+--     SavingWithin m           no saving spends more than the dearest
 --     MostSmall m, DearestSmall m     both mosts fit 16 bits
---     Bounded m                 all these laws
+--     Bounded m                all these laws
 use Rattle.std.specs.Prelude.{ℕ, ◌≤◌, ℤ}
 
 pub record Model : Type 0 where

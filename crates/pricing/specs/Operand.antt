@@ -1,10 +1,10 @@
 -- The operand model: a price for the class of the opcode, and what the operands add to it. Assumes nothing.
 --     class_price c           the price of class c, an opcode modulo 8: LDX 3, ST and STX 4, ALU64 2, the others 1
---     dividing op            what an operation of arithmetic adds: DIV and MOD 6
---     added k imm a b        what an instruction of kind k adds; an illegal opcode has no kind, and adds nothing
+--     dividing op             what an operation of arithmetic adds: DIV and MOD 6
+--     added k imm a b         what an instruction of kind k adds; an illegal opcode has no kind, and adds nothing
 --     added_most k imm        the most that it adds
---     saving p               what a saving with p pending records spends
---     operand                the model
+--     saving p                what a saving with p pending records spends
+--     operand                 the model
 use Rattle.std.specs.Prelude.{ℕ, ◌+◌, ◌*◌, ◌%◌, min, cond, ◌||◌, ℤ, Some, None, Option, ◌==◌}
 use Rattle.isa.specs.declared.kind.Operation.{Operation}
 use Rattle.isa.specs.declared.kind.Operation.TheVariants as operation

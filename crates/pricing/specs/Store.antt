@@ -1,5 +1,5 @@
 -- What a store adds to its price: a unit for each one among the bits it writes. Assumes nothing.
---     storing z b        what storing b adds
+--     storing z b         what storing b adds
 --     storing_most z      the most that it adds
 use Rattle.std.specs.Prelude.{ℕ, ◌*◌, count_ones}
 use Rattle.isa.specs.declared.kind.Size.{Size}

@@ -1,6 +1,6 @@
 -- A flood: nodes seen, and a queue of them whose ways out are followed in turn. Assumes nothing.
 --     seen                  true at each node seen
---     is_seen seen n         n has been seen; no node past the end has
+--     is_seen seen n        n has been seen; no node past the end has
 --     Queued seen queue     a queue holds the nodes seen, each once
 --     Added seen seen' queue queue' way    a node, or none, was seen and queued
 use Rattle.std.specs.Prelude.{◌≡◌, ℕ, ◌<◌, ◌≤◌, Bool, true, false, ◌⊎◌, List, length, Some, count_by, Option, slice_index, slice_index_or}

@@ -1,5 +1,5 @@
 -- A list of nodes, in room for 1,024 of them. Assumes nothing.
---     list_of l              the nodes of a list, in their order
+--     list_of l             the nodes of a list, in their order
 --     pushed ns n           nodes ns with n after them, while there is room
 --     nth ns p              the node at a place, or none
 use Rattle.std.specs.Prelude.{ℕ, cond, List, [], ◌∷◌, ◌++◌, length, take, Some, None, Option, nat_lt, slice_index}

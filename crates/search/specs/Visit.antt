@@ -1,5 +1,5 @@
 -- A depth-first search, visit by visit. Assumes nothing.
---     mark_at marks n        the mark of a node; New past the end
+--     mark_at marks n       the mark of a node; New past the end
 --     news marks            how many nodes are New
 --     dones marks           how many nodes are Done
 --     Sound g marks order   an order so far: After, Once, and its nodes are those that are Done

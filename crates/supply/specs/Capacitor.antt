@@ -1,14 +1,14 @@
 -- A capacitor as a supply. Assumes nothing.
 --     Condition            the condition of a capacitor: its ratings, its energy, the units asked of it and its charges
---     condition_of x        the one that x is in
+--     condition_of x       the one that x is in
 --     fresh r              as made: at its floor, never asked nor charged
 --     Made r result        what making one of ratings r answers: a fresh one where they are within the limits, else refusal 13
 --     suffices k n         n units can be taken, and the energy stays at its floor or above
---     answer_to k n         yes exactly then
+--     answer_to k n        yes exactly then
 --     drawn k n            the condition after a draw of n units: a yes takes their energy, a no leaves the floor
 --     filled k             the condition after a charge: full
 --     Drew x n answer y    a draw of n units answers so, and makes y of x
---     four_in k             the four numbers that a capacitor in condition k means
+--     four_in k            the four numbers that a capacitor in condition k means
 use Rattle.std.specs.Prelude.{◌≡◌, ℕ, ◌+◌, ◌-◌, ◌%◌, ◌^◌, Bool, cond, Ok, Err, Result, nat_le}
 use Rattle.isa.specs.declared.refusal.Refusal.{Refusal}
 use Rattle.isa.specs.declared.refusal.Refusal.TheVariants.{SupplyNumbers}

@@ -2,7 +2,7 @@
 --     fresh           the mains as made
 --     drawn m n       the mains after a draw of n units
 --     filled m        the mains after a recharge
---     four_of m        the four numbers that it means
+--     four_of m       the four numbers that it means
 use Rattle.std.specs.Prelude.{ℕ, ◌+◌, ◌%◌, ◌^◌}
 use Rattle.supply.specs.declared.mains.Mains.{Mains}
 use Rattle.supply.specs.Supply.{Four}

@@ -2,12 +2,12 @@
 -- the capacity in microfarads times the square of the voltage in millivolts. Assumes nothing.
 --     r.microfarads, r.top, r.bottom, r.unit     capacity, the voltages between which it works, the energy of a unit in picojoules
 --     ratings_of c top bottom unit     the ratings of these numbers
---     Within r              the limits of a capacitor's numbers
---     energy_at r v          its energy at v millivolts
+--     Within r                the limits of a capacitor's numbers
+--     energy_at r v           its energy at v millivolts
 --     floor_of r, full_of r   its energy at the bottom and at the top
---     energy_of r n          the energy of n units
---     units_in r e           the whole units that energy e has above the floor
---     budget_of r            the units in a full one
+--     energy_of r n           the energy of n units
+--     units_in r e            the whole units that energy e has above the floor
+--     budget_of r             the units in a full one
 use Rattle.std.specs.Prelude.{ℕ, ◌-◌, ◌*◌, ◌/◌, ◌<◌, ◌≤◌}
 use Rattle.supply.specs.declared.ratings.Ratings.{Ratings}
 

@@ -1,8 +1,8 @@
 -- What a supply means: four numbers, and what a draw and a recharge do to them. Assumes nothing.
---     f.budget               the charge that a recharge assures
---     f.assured              the charge that is certain to be there
---     f.asked                all units asked for so far, modulo 2^64
---     f.charges              how often it was recharged, modulo 2^64
+--     f.budget                the charge that a recharge assures
+--     f.assured               the charge that is certain to be there
+--     f.asked                 all units asked for so far, modulo 2^64
+--     f.charges               how often it was recharged, modulo 2^64
 --     Drawn f n answer f'     a draw of n units goes from f to f': n is added to the units asked; where n is assured the answer is
 --                             yes, and the assured charge falls by at most n; beyond that the answer and the assured charge are open
 --     Recharged f f'          a recharge goes from f to f': it adds 1 to the charges and assures at least the budget

@@ -1,9 +1,9 @@
 -- The nodes of a table of 1,024 slots. Assumes nothing.
 --     numbered way          a way out as a slot number below 1,024, or none
 --     paired a b            the ways out of an instruction, each present or not
---     successors_of x        all ways out of an instruction
+--     successors_of x       all ways out of an instruction
 --     node i price ways     the node of slot i
---     no_node                the node past the end of a table: no way out, at no price
+--     no_node               the node past the end of a table: no way out, at no price
 --     Tabled d xs f n       a table xs of 1,024 entries, those below n as f says; d past its end
 use Rattle.std.specs.Prelude.{◌≡◌, ℕ, ◌<◌, cond, List, length, ℤ, pos, negsuc, Some, None, Option, nat_lt, slice_index_or}
 use Rattle.isa.specs.declared.instruction.Instruction.{Instruction}

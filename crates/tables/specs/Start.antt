@@ -1,6 +1,6 @@
 -- The slots that walks start from, found in tables. Assumes nothing.
 --     way_node i o                   slot i with all its ways out, at no price; o is its legal instruction, or none
---     reached                       true at each slot that is reached
+--     reached                        true at each slot that is reached
 --     saved_at image reached i       slot i is a save that is reached
 --     started_by image reached i     i is slot 0, or the slot after such a save
 use Rattle.std.specs.Prelude.{ℕ, ◌-◌, Bool, false, ◌&&◌, ◌||◌, List, Some, None, Option, ◌==◌, slice_index_or}

@@ -1,8 +1,8 @@
 -- The answer about a sound graph, as a function that computes. Assumes nothing.
---     lowest_below f n         the lowest number below n that passes the test f, or none
+--     lowest_below f n        the lowest number below n that passes the test f, or none
 --     looped g n              n is reachable, and onward nodes lead from it back to it
 --     started g n             n is a start
---     sum_kind                 the kind of path value that is a price without end: summed, and joined by the greater
+--     sum_kind                the kind of path value that is a price without end: summed, and joined by the greater
 --     dearest g n             the price of the dearest complete list from n
 --     overspends g budget n   n is a start, and its dearest price is over budget
 --     certified g budget      the answer: the lowest loop, else the lowest start over budget, else accepted

@@ -1,12 +1,12 @@
 -- The graph that walks go along. Assumes nothing.
---     g.size        how many nodes it has: the numbers below
---     g.role n      what a node is to a round: a save, an idle slot, EXIT, or any other
---     g.ways n      its ways out
---     g.price n     its price
---     g.slot n      the slot that it stands at
+--     g.size         how many nodes it has: the numbers below
+--     g.role n       what a node is to a round: a save, an idle slot, EXIT, or any other
+--     g.ways n       its ways out
+--     g.price n      its price
+--     g.slot n       the slot that it stands at
 --     ending r       whether a walk ends at a node of role r: a save or EXIT
 --     onward g n     the nodes that a walk may go on to from n
---     net_of g        the net of the path values of a graph: onward nodes, prices, slots
+--     net_of g       the net of the path values of a graph: onward nodes, prices, slots
 --     Sound g        what the graph of a lawful image keeps
 --     Small g c      no node costs more than c, and that for each node of the graph stays below 2^64
 use Rattle.std.specs.Prelude.{◌≡◌, ℕ, suc, ◌*◌, ◌^◌, ◌<◌, ◌≤◌, Bool, true, false, cond, List, [], ◌∷◌}

@@ -1,12 +1,12 @@
 -- The graph of an image: a node for each slot. Assumes nothing.
---     m                       a price model
+--     m                        a price model
 --     price_of m x             the price of an instruction: a save costs the dearest saving, any other its most, and EXIT a saving besides
 --     role_at image i          what slot i is to a round; other where it has no legal instruction
 --     ways_at image i          its ways out that are slot numbers; none where it has no legal instruction
 --     price_at m image i       its price; 0 where it has no legal instruction
 --     graph_of m image         the graph of an image
---     LawfulSound             the graph of a lawful image is sound
---     LawfulSmall             with a model that keeps the laws, no node of it costs more than two times 65,535
+--     LawfulSound              the graph of a lawful image is sound
+--     LawfulSmall              with a model that keeps the laws, no node of it costs more than two times 65,535
 use Rattle.std.specs.Prelude.{ℕ, ◌+◌, ◌*◌, List, [], ◌∷◌, ◌++◌, ℤ, pos, negsuc, Some, None, Option}
 use Rattle.isa.specs.declared.instruction.Instruction.{Instruction}
 use Rattle.isa.specs.declared.instruction.Role.{Role}

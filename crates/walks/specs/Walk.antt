@@ -6,7 +6,7 @@
 --     CompleteList g n l     both: n and then l, as far as a walk can go
 --     Walk g w               w goes on from a start
 --     CompleteWalk g w       w is a complete list from a start
---     walk_price g w          the sum of the prices of the nodes of w
+--     walk_price g w         the sum of the prices of the nodes of w
 use Rattle.std.specs.Prelude.{◌≡◌, ℕ, suc, ◌+◌, true, ◌⊎◌, List, [], ◌∷◌}
 use Rattle.isa.specs.declared.instruction.Role.TheVariants.{Save}
 use Rattle.paths.specs.Net.{In}

@@ -1,6 +1,6 @@
 -- The worth of a node, as a value that computes. Assumes nothing.
---     worth_within k g steps n     the worth of n by the lists of at most so many nodes
---     worth_of k g n               the worth of n: the joined worths of its onward nodes, extended by it; the empty value where n is not reachable
+--     worth_within k g steps n    the worth of n by the lists of at most so many nodes
+--     worth_of k g n              the worth of n: the joined worths of its onward nodes, extended by it; the empty value where n is not reachable
 --     WorthsIn k price g worth    what the worths of the reachable nodes are, where a value has a price
 --     BothKinds g                 the worths of a graph are so, as prices and as prices with their slots
 --     WorthRight                  they are so on a sound graph in which no walk holds a node twice

@@ -1,5 +1,5 @@
 -- A small round on a small capacitor, whose counts are known. Assumes nothing.
---     six_slots                     r1 = 7, the next reading, r2 = r0, a save, a record, EXIT
+--     six_slots                    r1 = 7, the next reading, r2 = r0, a save, a record, EXIT
 --     tens                         257 prices of 10
 --     round                        the round of the six slots over the tape 5, at these prices
 --     small                        16 microfarads between 3,000 and 2,000 millivolts, in units of a microjoule: 40 units

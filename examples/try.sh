@@ -9,18 +9,18 @@
 #   examples/try.sh                               prices of the operand model
 #   examples/try.sh examples/field_meter.prices   prices of a meter
 #
-# It needs target/bin/yatesorrel, which `rt check yatesorrel` builds.
+# It needs crates/yatesorrel/out/yatesorrel, which `rt run yatesorrel` builds.
 set -eu
 
 here=$(cd "$(dirname "$0")" && pwd)
-program=$here/../target/bin/yatesorrel
+program=$here/../crates/yatesorrel/out/yatesorrel
 prices=${1:+$(realpath "$1")}
 work=$(mktemp -d)
 trap 'rm -rf "$work"' EXIT
 failed=0
 
 if [ ! -x "$program" ]; then
-    echo "there is no target/bin/yatesorrel; rt check yatesorrel builds it" >&2
+    echo "there is no crates/yatesorrel/out/yatesorrel; rt run yatesorrel builds it" >&2
     exit 1
 fi
 

@@ -9,7 +9,7 @@
 #   examples/try.sh                               prices of the operand model
 #   examples/try.sh examples/field_meter.prices   prices of a meter
 #
-# It needs crates/yatesorrel/out/yatesorrel, which `rt run yatesorrel` builds.
+# It needs crates/yatesorrel/out/yatesorrel, which `rt run` in crates/yatesorrel builds.
 set -eu
 
 here=$(cd "$(dirname "$0")" && pwd)
@@ -20,7 +20,7 @@ trap 'rm -rf "$work"' EXIT
 failed=0
 
 if [ ! -x "$program" ]; then
-    echo "there is no crates/yatesorrel/out/yatesorrel; rt run yatesorrel builds it" >&2
+    echo "there is no crates/yatesorrel/out/yatesorrel; rt run in crates/yatesorrel builds it" >&2
     exit 1
 fi
 

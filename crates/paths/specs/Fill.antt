@@ -5,14 +5,14 @@
 --     Untouched order xs ys d         the nodes that an order leaves out have the same value in both lists; d past their ends
 --     OrderOf nodes g order size      an order of nodes below size, each after its successors; a table describes the net at each
 --     Worths k g order xs   what the worths of the nodes of an order are
-use Rattle.std.specs.Prelude.{◌≡◌, ℕ, ◌<◌, List, [], ◌∷◌, length, get_or, slice_index, slice_index_or, slice_set}
+use Rattle.std.specs.Prelude.{◌≡◌, ℕ, ◌<◌, List, [], ◌∷◌, length, slice_index_or, slice_index, slice_set}
 use Rattle.paths.specs.declared.node.Node.{Node}
 use Rattle.paths.specs.Kind.{PathKind}
 use Rattle.paths.specs.Net.{Net, Listed, Ordered, Described}
 use Rattle.paths.specs.Join.{join_over, JoinFrom}
 
 abbrev pub worth_at : {V : Type 0} → PathKind V → Net → List V → ℕ → V
-worth_at k g xs n = k.extend (join_over k (λ t. get_or xs t k.empty) (g.ways n)) (g.slot n) (g.price n)
+worth_at k g xs n = k.extend (join_over k (λ t. slice_index_or xs t k.empty) (g.ways n)) (g.slot n) (g.price n)
 
 abbrev pub filled : {V : Type 0} → PathKind V → Net → List ℕ → List V → List V
 filled k g [] xs = xs

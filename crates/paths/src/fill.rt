@@ -1,5 +1,5 @@
 // The worths of the nodes of a net, worked out along an order.
-ghost use Rattle.std.specs.Prelude.{◌≡◌, length, get_or, slice_index_or, slice_set};
+ghost use Rattle.std.specs.Prelude.{◌≡◌, length, slice_index_or, slice_set};
 ghost use Rattle.paths.specs.Net.{Net, node_at, ways_of, tabled};
 ghost use Rattle.paths.specs.Join.{join_over};
 ghost use Rattle.paths.specs.Fill.{worth_at, filled, Untouched, OrderOf, Worths};
@@ -30,7 +30,7 @@ fn value_at<V: PathValue>(worths: &[V], at: u16) -> V
 }
 
 fn joined<V: PathValue>(worths: &[V], successors: Successors) -> V
-    ensures { result ≡ join_over V.PathValue.kind (λ t. get_or worths.now t V.PathValue.kind.empty) (ways_of successors) }
+    ensures { result ≡ join_over V.PathValue.kind (λ t. slice_index_or worths.now t V.PathValue.kind.empty) (ways_of successors) }
 {
     match successors {
         Successors::End => V::empty(),

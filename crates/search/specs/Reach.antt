@@ -6,7 +6,7 @@
 --     Reached g starts n    some start reaches n
 --     Looped g starts n     some start reaches n, and n lies on a loop
 --     Tells table P         a table has true at the nodes below 1,024 of which P holds, and at no others
-use Rattle.std.specs.Prelude.{◌≡◌, ℕ, ◌<◌, Bool, true, false, ◌↔◌, List, get_or, slice_index_or}
+use Rattle.std.specs.Prelude.{◌≡◌, ℕ, ◌<◌, Bool, true, false, ◌↔◌, List, slice_index_or}
 use Rattle.paths.specs.Net.{Net, In}
 
 pub data Reaches (g : Net) (n : ℕ) : ℕ → Type 0 where
@@ -24,7 +24,7 @@ OnLoop g n = Leads g n n
 
 pub record Reached (g : Net) (starts : List Bool) (n : ℕ) : Type 0 where
   pub start : ℕ
-  pub chosen : get_or starts start false ≡ true
+  pub chosen : slice_index_or starts start false ≡ true
   pub reaches : Reaches g start n
 
 pub record Looped (g : Net) (starts : List Bool) (n : ℕ) : Type 0 where

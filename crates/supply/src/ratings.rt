@@ -27,7 +27,8 @@ impl Ratings {
 
     // Microfarads times millivolts squared are twice the picojoules.
     fn energy_at(self, millivolts: u32) -> u64
-        requires { (Within self) × (millivolts ≤ 10000) }
+        requires within { Within self }
+        requires most { millivolts ≤ 10000 }
         ensures { result ≡ energy_at self millivolts }
     {
         let volts = millivolts as u64;
@@ -57,7 +58,8 @@ impl Ratings {
 
     // The whole units that an energy has above the floor.
     pub(crate) fn units_in(self, energy: u64) -> u64
-        requires { (Within self) × (floor_of self ≤ energy) }
+        requires within { Within self }
+        requires above { floor_of self ≤ energy }
         ensures { result ≡ units_in self energy }
     {
         (energy - self.floor()) / (2 * self.unit as u64)

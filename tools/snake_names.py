@@ -1,5 +1,5 @@
 #!/usr/bin/env python3
-"""Spells the repository's own definitions and lemmas in snake case, in every proof file, clause and page.
+"""Spells the repository's own definitions and lemmas in snake case, in every definition, proof and clause.
 
 usage: python3 tools/snake_names.py [--check]        at the top of the repository
 
@@ -89,10 +89,6 @@ def told(names, declared):
             lines.append(f"{old} becomes {new}, which is declared")
         seen[new] = old
     return lines
-
-
-def in_markdown(text, names):
-    return re.sub(r"`[^`\n]+`", lambda m: turned(m[0], names, False), text)
 
 
 def main(check):

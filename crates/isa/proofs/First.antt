@@ -6,7 +6,7 @@ use Rattle.isa.specs.First.{or_else, first_below, First}
 module _ {A : Type 0} where
   pub or_none : (a b : Option A) → or_else a b ≡ None → (a ≡ None) × (b ≡ None)
   or_none None b none = (refl, none)
-  or_none (Some x) b none = let e : ◌≡◌ {A = ℕ} 0 1 = cc in absurd (omega (arith, e))
+  or_none (Some x) b none = cc
 
   pub or_some : (a b : Option A) (r : A) → or_else a b ≡ Some r → (a ≡ Some r) ⊎ ((a ≡ None) × (b ≡ Some r))
   or_some None b r some = inr (refl, some)
@@ -36,7 +36,7 @@ module _ {A : Type 0} (f : ℕ → Option A) where
       ap (λ o. or_else o (f n)) (each_none n (λ k h. each k (omega arith))) ∙ each n (omega arith)
 
   pub first_of : (n : ℕ) (r : A) → first_below f n ≡ Some r → First f n r
-  first_of zero r some = let e : ◌≡◌ {A = ℕ} 0 1 = cc in absurd (omega (arith, e))
+  first_of zero r some = cc
   first_of (suc n) r some =
       ⊎_elim
       (λ (e : first_below f n ≡ Some r).

@@ -1,5 +1,5 @@
 -- What the answer on an image means.
-use Rattle.std.proofs.Common.{◌≡◌, ℕ, ◌<◌, ◌≤◌, Bool, true, false, cond, List, ℤ, pos, negsuc, Some, None, Ok, Err, Option, Result, sym, refl, ap, ◌∙◌, subst, ⊎_elim, arith}
+use Rattle.std.proofs.Common.{◌≡◌, ℕ, ◌<◌, ◌≤◌, Bool, true, false, cond, List, ℤ, pos, negsuc, Some, None, Ok, Err, Option, Result, sym, refl, ap, ◌∙◌, subst, ⊎_elim}
 use Rattle.std.specs.Result.{result_err, result_ok}
 use Rattle.std.proofs.lemmas.Bool.{and_parts, and_from, ltb-true, lt-ltb, le-ltb, cond-true, cond-false, cases_Bool, cases_lt}
 use Rattle.isa.specs.declared.instruction.Instruction.{Instruction}
@@ -12,24 +12,14 @@ use Rattle.isa.specs.Rule.{decoded}
 use Rattle.isa.specs.Image.{well_sized, instruction_at, legal_in}
 use Rattle.isa.specs.Refusal.{ok_unless}
 use Rattle.isa.specs.Lawful.{fault_in, fault_at, stays_inside, leaving_by, leaving_in, leaving_at, first_broken, lawfulness, Inside, Lawful, Breaks, length_bad, slot_bad, way_bad, Judged}
-use Rattle.isa.proofs.First.{none_each, each_none, first_of, or_none, or_some}
-
-some_none : {A : Type 0} {B : Type 0} {o : Option A} {x : A} → o ≡ Some x → o ≡ None → B
-some_none p q = let z : ◌≡◌ {A = ℕ} 0 1 = cc in absurd (omega (arith, z))
-
-ok_from : (o : Option Refusal) → ok_unless o (tt {0}) ≡ Ok tt → o ≡ None
-ok_from None e = refl
-ok_from (Some r) e = let z : ◌≡◌ {A = ℕ} 0 1 = cc in absurd (omega (arith, z))
-
-err_from : (o : Option Refusal) (r : Refusal) → ok_unless o (tt {0}) ≡ Err r → o ≡ Some r
-err_from None r e = let z : ◌≡◌ {A = ℕ} 0 1 = cc in absurd (omega (arith, z))
-err_from (Some s) r e = cc
+use Rattle.isa.proofs.First.{none_each, each_none, some_below, first_of, or_none, or_some}
+use Rattle.isa.proofs.Refusing.{ok_from, err_from}
 
 -- a way out that stays, as a test and as a fact
 inside_from : (w : Option ℤ) (n : ℕ) → stays_inside w n ≡ true → Inside w n
 inside_from None n e = tt
 inside_from (Some (pos k)) n e = ltb-true k n e
-inside_from (Some (negsuc k)) n e = let z : ◌≡◌ {A = ℕ} 0 1 = cc in absurd (omega (arith, z))
+inside_from (Some (negsuc k)) n e = cc
 
 from_inside : (w : Option ℤ) (n : ℕ) → Inside w n → stays_inside w n ≡ true
 from_inside None n h = refl
@@ -38,7 +28,7 @@ from_inside (Some (negsuc k)) n h = absurd h
 
 cond_none : (b : Bool) (r : Refusal) → cond b None (Some r) ≡ None → b ≡ true
 cond_none true r e = refl
-cond_none false r e = let z : ◌≡◌ {A = ℕ} 0 1 = cc in absurd (omega (arith, z))
+cond_none false r e = cc
 
 stays_both : (x : Instruction) (n : ℕ) → leaving_by x n ≡ None → Inside (ways_out x).0 n × Inside (ways_out x).1 n
 stays_both x n e =
@@ -52,11 +42,11 @@ both_stay x n h =
 -- a slot without a fault has an instruction, and the other way round
 legal_from : (r : Result Instruction Refusal) → result_err r ≡ None → (x : Instruction) × (result_ok r ≡ Some x)
 legal_from (Ok x) e = (x, refl)
-legal_from (Err r) e = let z : ◌≡◌ {A = ℕ} 0 1 = cc in absurd (omega (arith, z))
+legal_from (Err r) e = cc
 
 from_legal : (r : Result Instruction Refusal) (x : Instruction) → result_ok r ≡ Some x → result_err r ≡ None
 from_legal (Ok y) x e = refl
-from_legal (Err r) x e = let z : ◌≡◌ {A = ℕ} 0 1 = cc in absurd (omega (arith, z))
+from_legal (Err r) x e = cc
 
 module _ (image : List ℕ) where
   slot_there : (i : ℕ) → i < slot_count image → slot_at image i ≡ Some (fields_of image i)
@@ -74,7 +64,8 @@ module _ (image : List ℕ) where
   pub slot_of : (i : ℕ) (x : Instruction) → well_sized image ≡ true → instruction_at image i ≡ Some x → i < slot_count image
   slot_of i x sized e =
       ⊎_elim (λ (h : i < slot_count image). h)
-      (λ (h : slot_count image ≤ i). some_none e (cond-true _ _ _ sized ∙ ap (λ o. legal_in o i) (cond-false _ _ _ (le-ltb i (slot_count image) h))))
+      (λ (h : slot_count image ≤ i).
+      let absent : instruction_at image i ≡ None = cond-true _ _ _ sized ∙ ap (λ o. legal_in o i) (cond-false _ _ _ (le-ltb i (slot_count image) h)) in cc)
       (cases_lt i (slot_count image))
 
   Faultless : Type 0
@@ -122,7 +113,7 @@ module _ (image : List ℕ) where
       let both = or_none _ _ (sym (broken_slot sized) ∙ none) in
       keeps_all sized (none_each (fault_at image) (slot_count image) both.0)
       (none_each (leaving_at image (slot_count image)) (slot_count image) both.1))
-      (λ (unsized : well_sized image ≡ false). some_none (broken_length unsized) none)
+      (λ (unsized : well_sized image ≡ false). let p = broken_length unsized in cc)
       (cases_Bool (well_sized image))
 
   accepts : Lawful image → first_broken image ≡ None
@@ -151,3 +142,25 @@ module _ (image : List ℕ) where
     accepts = λ k. ap (λ o. ok_unless o tt) (accepts k);
     refused = λ r e. refused r (err_from (first_broken image) r e);
   }
+
+  -- the refusals as they are come upon, slot by slot
+  pub slot_refused : (i : ℕ) (r : Refusal) → well_sized image ≡ true → i < slot_count image
+      → first_below (fault_at image) i ≡ None → ok_unless (fault_at image i) (tt {0}) ≡ Err r → lawfulness image ≡ Err r
+  slot_refused i r sized h before here =
+      ap (λ o. ok_unless o tt)
+      (broken_slot sized
+      ∙ ap (λ o. or_else o (first_below (leaving_at image (slot_count image)) (slot_count image)))
+      (some_below (fault_at image) (slot_count image) i r h before (err_from _ r here)))
+
+  pub way_refused : (i : ℕ) (r : Refusal) → well_sized image ≡ true → i < slot_count image
+      → first_below (fault_at image) (slot_count image) ≡ None
+      → first_below (leaving_at image (slot_count image)) i ≡ None
+      → ok_unless (leaving_at image (slot_count image) i) (tt {0}) ≡ Err r → lawfulness image ≡ Err r
+  way_refused i r sized h faultless before here =
+      ap (λ o. ok_unless o tt)
+      (broken_slot sized
+      ∙ ap (λ o. or_else o (first_below (leaving_at image (slot_count image)) (slot_count image))) faultless
+      ∙ some_below (leaving_at image (slot_count image)) (slot_count image) i r h before (err_from _ r here))
+
+  pub judged : (a : Result (Unit {0}) Refusal) → a ≡ lawfulness image → Judged image a
+  judged a e = subst (λ x. Judged image x) (sym e) judging

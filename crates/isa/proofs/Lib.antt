@@ -1,3 +1,4 @@
 pub mod Carried
 pub mod First
 pub mod Judging
+pub mod Refusing

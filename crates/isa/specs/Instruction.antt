@@ -3,7 +3,7 @@
 --     ways_out x                 its ways out: the next slot and the target of a jump, each present or not
 --     role_of x                  a save, an idle slot, EXIT, or any other
 --     Registered x               its registers are among r0 to r10
-use Rattle.std.specs.Prelude.{◌+◌, ◌≤◌, cond, ℤ, pos, ◌+ℤ◌, Some, None, Option}
+use Rattle.std.specs.Prelude.{◌+◌, ◌≤◌, if◌then◌else◌, ℤ, pos, ◌+ℤ◌, Some, None, Option}
 use Rattle.isa.specs.declared.kind.Kind.{Kind}
 use Rattle.isa.specs.declared.kind.Kind.TheVariants.{Arithmetic, Branch, Jump, Call, Exit, Load, StoreImm, StoreReg}
 use Rattle.isa.specs.declared.helper.Helper.{Helper}
@@ -42,7 +42,7 @@ role_of_call None = role.Other
 -- a save is CALL of the helper that saves, an idle slot JA with offset 0
 abbrev pub role_by : Kind → ℤ → ℤ → Role
 role_by Call offset imm = role_of_call (helper_of imm)
-role_by Jump offset imm = cond (holds offset 0) role.Idle role.Other
+role_by Jump offset imm = if holds offset 0 then role.Idle else role.Other
 role_by Exit offset imm = role.Exit
 role_by (Arithmetic w o s) offset imm = role.Other
 role_by (Branch w t s) offset imm = role.Other

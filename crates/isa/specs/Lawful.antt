@@ -6,7 +6,7 @@
 --     Lawful image              an image that keeps every rule
 --     Breaks image r            r is the first rule that an image breaks, said without computing it
 --     Judged image answer       what an answer means: accepted exactly when lawful, refused by the first rule broken
-use Rattle.std.specs.Prelude.{◌≡◌, ℕ, ◌<◌, Bool, true, false, cond, ◌&&◌, List, ℤ, pos, negsuc, Some, None, Ok, Err, Option, Result, nat_lt}
+use Rattle.std.specs.Prelude.{◌≡◌, ℕ, ◌<◌, Bool, true, false, if◌then◌else◌, ◌&&◌, List, ℤ, pos, negsuc, Some, None, Ok, Err, Option, Result, nat_lt}
 use Rattle.std.specs.Result.{result_err}
 use Rattle.isa.specs.declared.slot.Slot.{Slot}
 use Rattle.isa.specs.declared.instruction.Instruction.{Instruction}
@@ -32,7 +32,7 @@ stays_inside (Some (pos k)) n = nat_lt k n
 stays_inside (Some (negsuc k)) n = false
 
 abbrev pub leaving_by : Instruction → ℕ → Option Refusal
-leaving_by x n = cond (stays_inside (ways_out x).0 n && stays_inside (ways_out x).1 n) None (Some (WayOut x.at))
+leaving_by x n = if stays_inside (ways_out x).0 n && stays_inside (ways_out x).1 n then None else Some (WayOut x.at)
 
 abbrev pub leaving_in : Option Instruction → ℕ → Option Refusal
 leaving_in None n = None
@@ -43,9 +43,9 @@ leaving_at image n i = leaving_in (instruction_at image i) n
 
 abbrev pub first_broken : List ℕ → Option Refusal
 first_broken image =
-    cond (well_sized image)
-    (or_else (first_below (fault_at image) (slot_count image)) (first_below (leaving_at image (slot_count image)) (slot_count image)))
-    (Some Length)
+    if well_sized image
+    then or_else (first_below (fault_at image) (slot_count image)) (first_below (leaving_at image (slot_count image)) (slot_count image))
+    else Some Length
 
 abbrev pub lawfulness : List ℕ → Result (Unit {0}) Refusal
 lawfulness image = ok_unless (first_broken image) tt

@@ -4,7 +4,7 @@
 --     under n table                          the entry under a number
 --     arithmetic w o, branch w o, access o     the meaning of a byte of such a class
 --     kind_of o                              the meaning of any byte, or none
-use Rattle.std.specs.Prelude.{ℕ, ◌/◌, ◌%◌, cond, List, [], ◌∷◌, Some, None, Option, ◌==◌}
+use Rattle.std.specs.Prelude.{ℕ, ◌/◌, ◌%◌, if◌then◌else◌, List, [], ◌∷◌, Some, None, Option, ◌==◌}
 use Rattle.std.specs.Option.{option_map}
 use Rattle.isa.specs.First.{or_else}
 use Rattle.isa.specs.declared.kind.Width.{Width}
@@ -29,11 +29,11 @@ code_of o = o / 16
 
 -- K, the second operand is imm, or X, it is the register src
 unfoldable pub source_of : ℕ → Source
-source_of o = cond (o / 8 % 2 == 0) Imm Register
+source_of o = if o / 8 % 2 == 0 then Imm else Register
 
 unfoldable pub under : {A : Type 0} → ℕ → List (ℕ × A) → Option A
 under n [] = None
-under n ((k, a) ∷ rest) = cond (n == k) (Some a) (under n rest)
+under n ((k, a) ∷ rest) = if n == k then Some a else under n rest
 
 unfoldable pub operations : List (ℕ × Operation)
 operations =
@@ -52,7 +52,7 @@ sizes = (12, Four) ∷ (13, Two) ∷ (14, One) ∷ (15, Eight) ∷ []
 
 -- NEG has the code 8, and is legal as K alone
 unfoldable pub negation : Width → ℕ → Option Kind
-negation w o = cond (o / 8 == 16) (Some (Arithmetic w operation.Neg Imm)) None
+negation w o = if o / 8 == 16 then Some (Arithmetic w operation.Neg Imm) else None
 
 unfoldable pub arithmetic : Width → ℕ → Option Kind
 arithmetic w o = or_else (option_map (λ op. Arithmetic w op (source_of o)) (under (code_of o) operations)) (negation w o)

@@ -4,7 +4,7 @@
 --     little bs            the number that bytes say, the lowest first
 --     fields_of bs         eight bytes taken apart: opcode, dst and src, signed offset, signed imm
 --     slot_at image i      the fields of slot i, or none where there is no such slot
-use Rattle.std.specs.Prelude.{ℕ, ◌+◌, ◌*◌, ◌/◌, ◌%◌, cond, List, [], ◌∷◌, length, Some, None, Option, nat_lt, slice_index}
+use Rattle.std.specs.Prelude.{ℕ, ◌+◌, ◌*◌, ◌/◌, ◌%◌, if◌then◌else◌, List, [], ◌∷◌, length, Some, None, Option, nat_lt, slice_index}
 use Rattle.std.proofs.Common.{to_z}
 use Rattle.std.specs.Int.{w16, w32}
 use Rattle.isa.specs.declared.slot.Slot.{Slot}
@@ -31,4 +31,4 @@ fields_of image i =
     }
 
 abbrev pub slot_at : List ℕ → ℕ → Option Slot
-slot_at image i = cond (nat_lt i (slot_count image)) (Some (fields_of image i)) None
+slot_at image i = if nat_lt i (slot_count image) then Some (fields_of image i) else None

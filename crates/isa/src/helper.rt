@@ -2,7 +2,7 @@
 ghost use Rattle.std.specs.Prelude.{◌≡◌};
 ghost use Rattle.isa.specs.Helper.{helper_of};
 
-#[derive(Clone, Copy)]
+#[derive(Clone, Copy, PartialEq, Eq)]
 pub enum Helper {
     // keeps the state
     Save,
@@ -13,6 +13,7 @@ pub enum Helper {
 }
 
 // The helper that the imm of a CALL names, or none.
+// Stays: a TryFrom needs an error type of its own, which every caller would drop by `.ok()`.
 pub fn helper_of(imm: i32) -> Option<Helper>
     ensures { result ≡ helper_of imm }
 {

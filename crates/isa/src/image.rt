@@ -16,6 +16,7 @@ pub fn well_sized(image: &[u8]) -> bool
 
 // The legal instruction at a slot, or none: the image's size is bad, the slot
 // is absent, or it breaks a rule.
+// Stays: the caller lends an image as bytes, and the slot is an index into them.
 pub fn instruction_at(image: &[u8], slot: u16) -> Option<Instruction>
     ensures value { result ≡ instruction_at image.now slot }
     ensures registers { IfSome result Registered }
@@ -23,8 +24,5 @@ pub fn instruction_at(image: &[u8], slot: u16) -> Option<Instruction>
     if !well_sized(image) {
         return None;
     }
-    match slot_at(image, slot) {
-        Some(fields) => decode(fields, slot).ok(),
-        None => None,
-    }
+    decode(slot_at(image, slot)?, slot).ok()
 }

@@ -25,16 +25,18 @@ pub enum Role {
 }
 
 impl Instruction {
-    fn next(self) -> i32
+    // The slot after it.
+    pub fn next(self) -> i32
         ensures { result ≡ next_of self }
     {
-        self.at as i32 + 1
+        i32::from(self.at) + 1
     }
 
-    fn target(self) -> i32
+    // The slot that its offset names, counted from the slot after it.
+    pub fn target(self) -> i32
         ensures { result ≡ target_of self }
     {
-        self.at as i32 + 1 + self.fields.offset as i32
+        self.next() + i32::from(self.fields.offset)
     }
 
     // The ways out: the next slot, and the target of a jump.
@@ -53,10 +55,7 @@ impl Instruction {
         ensures { result ≡ role_of self }
     {
         match self.kind {
-            Kind::Call => match helper_of(self.fields.imm) {
-                Some(Helper::Save) => Role::Save,
-                _ => Role::Other,
-            },
+            Kind::Call if helper_of(self.fields.imm) == Some(Helper::Save) => Role::Save,
             Kind::Jump if self.fields.offset == 0 => Role::Idle,
             Kind::Exit => Role::Exit,
             _ => Role::Other,

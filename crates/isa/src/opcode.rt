@@ -280,6 +280,7 @@ const KINDS: &[Option<Kind>; 256] = &[
 ];
 
 // What an opcode byte means, or none where it is illegal.
+// Stays: the refusal of a bad opcode names its slot, which a TryFrom of the byte cannot know.
 pub fn kind_of(opcode: u8) -> Option<Kind>
     ensures { result ≡ kind_of opcode }
 {

@@ -48,6 +48,7 @@ pub enum Unplaceable {
 }
 
 // A refusal in numbers: slot and price are 0 where a case has none.
+// Stays: people and callers in C know a refusal by these numbers, which have no room for a none.
 #[derive(Clone, Copy, PartialEq, Eq, Debug)]
 pub struct Told {
     pub number: u8,
@@ -56,6 +57,7 @@ pub struct Told {
 }
 
 impl Told {
+    // Stays: a literal for each refusal takes five lines, and a From of a triple names no part either.
     fn new(number: u8, slot: u16, price: u64) -> Self
         ensures { result ≡ told number slot price }
     {
@@ -67,22 +69,22 @@ impl Told {
     }
 }
 
-impl Unplaceable {
-    fn told(self) -> Told
-        ensures { result ≡ told_by self }
-    {
-        match self {
+impl From<Unplaceable> for Told {
+    ghost from_gives = { λ unplaceable told. told ≡ told_by unplaceable };
+
+    fn from(unplaceable: Unplaceable) -> Self {
+        match unplaceable {
             Unplaceable::Loop { slot } => Told::new(9, slot, 0),
             Unplaceable::OverBudget { slot, price } => Told::new(10, slot, price),
         }
     }
 }
 
-impl Refusal {
-    fn told(self) -> Told
-        ensures { result ≡ told_of self }
-    {
-        match self {
+impl From<Refusal> for Told {
+    ghost from_gives = { λ refusal told. told ≡ told_of refusal };
+
+    fn from(refusal: Refusal) -> Self {
+        match refusal {
             Refusal::Length => Told::new(1, 0, 0),
             Refusal::IllegalOpcode { slot } => Told::new(2, slot, 0),
             Refusal::NoRegister { slot } => Told::new(3, slot, 0),
@@ -102,23 +104,25 @@ impl Refusal {
             Refusal::NoRecord => Told::new(24, 0, 0),
         }
     }
+}
 
+impl Refusal {
     pub fn number(self) -> u8
         ensures { result ≡ (told_of self).number }
     {
-        self.told().number
+        Told::from(self).number
     }
 
     pub fn slot(self) -> u16
         ensures { result ≡ (told_of self).slot }
     {
-        self.told().slot
+        Told::from(self).slot
     }
 
     pub fn price(self) -> u64
         ensures { result ≡ (told_of self).price }
     {
-        self.told().price
+        Told::from(self).price
     }
 
     // The refusal that another one carries, in numbers.
@@ -126,7 +130,7 @@ impl Refusal {
         ensures { result ≡ carried_of self }
     {
         match self {
-            Refusal::NoPlacement { carried } => Some(carried.told()),
+            Refusal::NoPlacement { carried } => Some(carried.into()),
             _ => None,
         }
     }

@@ -1,6 +1,7 @@
 // The rules on one slot, whatever stands in the others.
 ghost use Rattle.std.specs.Prelude.{◌≡◌, IfOk};
 ghost use Rattle.isa.specs.Instruction.{Registered};
+ghost use Rattle.isa.specs.Refusal.{ok_unless};
 ghost use Rattle.isa.specs.Rule.{unused, must_be_zero, registers_exist, zeros_kept, writes_dst, frame_pointer_kept, helper_known, fault_of, decoded};
 
 use crate::helper::helper_of;
@@ -20,6 +21,7 @@ struct Unused {
 }
 
 impl Unused {
+    // Stays: a literal for each kind takes six lines.
     fn new(dst: bool, src: bool, offset: bool, imm: bool) -> Self
         ensures { result ≡ unused dst src offset imm }
     {
@@ -56,6 +58,7 @@ fn registers_exist(fields: Slot) -> bool
     fields.dst <= 10 && fields.src <= 10
 }
 
+// Stays: kind and fields go apart until every rule is kept; then they are an Instruction.
 fn zeros_kept(kind: Kind, fields: Slot) -> bool
     ensures { result ≡ zeros_kept kind fields }
 {
@@ -69,10 +72,7 @@ fn zeros_kept(kind: Kind, fields: Slot) -> bool
 fn writes_dst(kind: Kind) -> bool
     ensures { result ≡ writes_dst kind }
 {
-    match kind {
-        Kind::Arithmetic(..) | Kind::Load(..) => true,
-        _ => false,
-    }
+    matches!(kind, Kind::Arithmetic(..) | Kind::Load(..))
 }
 
 fn frame_pointer_kept(kind: Kind, fields: Slot) -> bool
@@ -84,29 +84,26 @@ fn frame_pointer_kept(kind: Kind, fields: Slot) -> bool
 fn helper_known(kind: Kind, fields: Slot) -> bool
     ensures { result ≡ helper_known kind fields }
 {
-    match kind {
-        Kind::Call => helper_of(fields.imm).is_some(),
-        _ => true,
-    }
+    !matches!(kind, Kind::Call) || helper_of(fields.imm).is_some()
 }
 
-// The first rule that a slot of this kind breaks.
-fn fault_of(kind: Kind, fields: Slot, slot: u16) -> Option<Refusal>
-    ensures { result ≡ fault_of kind fields slot }
+// The rules on a slot of a known kind.
+fn check_fields(kind: Kind, fields: Slot, slot: u16) -> Result<(), Refusal>
+    ensures { result ≡ ok_unless (fault_of kind fields slot) tt }
 {
     if !registers_exist(fields) {
-        return Some(Refusal::NoRegister { slot });
+        return Err(Refusal::NoRegister { slot });
     }
     if !zeros_kept(kind, fields) {
-        return Some(Refusal::FieldNotZero { slot });
+        return Err(Refusal::FieldNotZero { slot });
     }
     if !frame_pointer_kept(kind, fields) {
-        return Some(Refusal::FramePointer { slot });
+        return Err(Refusal::FramePointer { slot });
     }
     if !helper_known(kind, fields) {
-        return Some(Refusal::NoHelper { slot });
+        return Err(Refusal::NoHelper { slot });
     }
-    None
+    Ok(())
 }
 
 // The instruction that a slot's fields say, or the first rule that they break.
@@ -114,15 +111,11 @@ pub fn decode(fields: Slot, slot: u16) -> Result<Instruction, Refusal>
     ensures value { result ≡ decoded fields slot }
     ensures registers { IfOk result Registered }
 {
-    let Some(kind) = kind_of(fields.opcode) else {
-        return Err(Refusal::IllegalOpcode { slot });
-    };
-    match fault_of(kind, fields, slot) {
-        Some(refusal) => Err(refusal),
-        None => Ok(Instruction {
-            at: slot,
-            kind,
-            fields,
-        }),
-    }
+    let kind = kind_of(fields.opcode).ok_or(Refusal::IllegalOpcode { slot })?;
+    check_fields(kind, fields, slot)?;
+    Ok(Instruction {
+        at: slot,
+        kind,
+        fields,
+    })
 }

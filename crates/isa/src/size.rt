@@ -4,6 +4,7 @@ ghost use Rattle.isa.specs.Size.{bytes_in, cut_to};
 
 use crate::kind::Size;
 
+// Stays: `u8::from(size)` does not say that the number counts bytes.
 pub fn bytes_in(size: Size) -> u8
     ensures { result ≡ bytes_in size }
 {

@@ -15,15 +15,15 @@ pub struct Slot {
 pub fn slot_at(image: &[u8], slot: u16) -> Option<Slot>
     ensures { result ≡ slot_at image.now slot }
 {
-    if slot as usize >= image.len() / 8 {
+    let at = 8 * usize::from(slot);
+    let &[opcode, registers, o0, o1, i0, i1, i2, i3] = image.get(at..at + 8)? else {
         return None;
-    }
-    let at = 8 * slot as usize;
+    };
     Some(Slot {
-        opcode: image[at],
-        dst: image[at + 1] % 16,
-        src: image[at + 1] / 16,
-        offset: i16::from_le_bytes([image[at + 2], image[at + 3]]),
-        imm: i32::from_le_bytes([image[at + 4], image[at + 5], image[at + 6], image[at + 7]]),
+        opcode,
+        dst: registers % 16,
+        src: registers / 16,
+        offset: i16::from_le_bytes([o0, o1]),
+        imm: i32::from_le_bytes([i0, i1, i2, i3]),
     })
 }

@@ -5,6 +5,7 @@ use isa::refusal::Told;
 use rounds::piezometer_pair::PIEZOMETER_PAIR;
 use std::test::Fail;
 
+// Stays: the cases are compared with what a refusal tells, which has no none.
 const LAWFUL: Told = Told {
     number: 0,
     slot: 0,
@@ -12,14 +13,7 @@ const LAWFUL: Told = Told {
 };
 
 fn answer(image: &[u8]) -> Told {
-    match lawful(image) {
-        Ok(()) => LAWFUL,
-        Err(refusal) => Told {
-            number: refusal.number(),
-            slot: refusal.slot(),
-            price: refusal.price(),
-        },
-    }
+    lawful(image).map_or_else(Told::from, |()| LAWFUL)
 }
 
 fn refused(number: u8, slot: u16) -> Told {
@@ -32,11 +26,10 @@ fn refused(number: u8, slot: u16) -> Told {
 
 // As many bytes of an image of nothing but EXIT.
 fn exits(rt: &HostRuntime, length: usize) -> Result<Told, Fail> {
-    let mut image = Vec::new(rt.alloc());
-    for at in 0..length {
-        image.push(if at % 8 == 0 { 0x95 } else { 0 })?;
-    }
-    Ok(answer(image.as_slice()))
+    let image: Vec<u8> = (0..length)
+        .map(|at| if at % 8 == 0 { 0x95 } else { 0 })
+        .collect(rt.alloc())?;
+    Ok(answer(&image))
 }
 
 #[test]

@@ -155,6 +155,12 @@ fn numbers(rt: HostRuntime) {
         assert_eq!(rt; case.refusal.number(), case.number);
         assert_eq!(rt; case.refusal.slot(), case.slot);
         assert_eq!(rt; case.refusal.price(), case.price);
+        let told = Told {
+            number: case.number,
+            slot: case.slot,
+            price: case.price,
+        };
+        assert_eq!(rt; Told::from(case.refusal), told);
     }
 }
 

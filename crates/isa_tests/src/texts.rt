@@ -452,10 +452,8 @@ static CASES: [Case; 109] = [
 // The text of a legal slot, or none.
 fn text_of(rt: &HostRuntime, slot: &[u8]) -> Result<String, Fail> {
     let fields = slot_at(slot, 0).ok_or("no slot")?;
-    match decode(fields, 0) {
-        Ok(instruction) => Ok(format!(in rt.alloc(); "{}", Text(instruction))?),
-        Err(_) => Err(Fail::new("not legal")),
-    }
+    let instruction = decode(fields, 0).map_err(|_| "not legal")?;
+    Ok(format!(in rt.alloc(); "{}", Text(instruction))?)
 }
 
 #[test]

@@ -1,20 +1,39 @@
--- The answer is the definition's, and what that means is shown once.
-use Rattle.std.proofs.Common.{◌≡◌, ℕ, List, Option, sym, ap, ◌∙◌, subst}
-use Rattle.isa.specs.declared.refusal.Refusal.{Refusal}
-use Rattle.isa.specs.Refusal.{ok_unless}
-use Rattle.isa.specs.Lawful.{first_broken, lawfulness, Judged}
-use Rattle.isa.proofs.Judging.{judging}
+-- Each return gives the definition's answer, and what that means is shown once.
+use Rattle.std.proofs.Common.{◌≡◌, ◌/◌, None, Err, length, rules, sym, ap, ◌∙◌, subst, arith}
+use Rattle.std.proofs.lemmas.Result.{err_from_is_err_and}
+use Rattle.isa.specs.First.{first_below}
+use Rattle.isa.specs.Lawful.{fault_at, leaving_at, lawfulness}
+use Rattle.isa.proofs.First.{none_more}
+use Rattle.isa.proofs.Refusing.{ok_from}
+use Rattle.isa.proofs.Judging.{slot_refused, way_refused, judged}
 use Rattle.isa.proofs.lawful.lawful.Goals as goal
 
-answer : (image : List ℕ) (o : Option Refusal) → o ≡ first_broken image → (ok_unless o tt ≡ lawfulness image) × Judged image (ok_unless o tt)
-answer image o e =
-    let same : ok_unless o tt ≡ lawfulness image = ap (λ x. ok_unless x tt) e in
-    (same, subst (λ a. Judged image a) (sym same) (judging image))
+pub returns-then-not-well_sized-clause-judged : goal.returns-then-not-well_sized-clause-judged
+returns-then-not-well_sized-clause-judged c = judged c.args.image.now _ (search rules)
 
-pub returns-in-Some : goal.returns-in-Some
-returns-in-Some c =
-    let a = answer c.args.image.now _ (sym c.in-Some.is ∙ c.first_broken.ensures) in record { value = a.0; judged = a.1 }
+pub returns-in_err-check_slot : goal.returns-in_err-check_slot
+returns-in_err-check_slot c =
+    let p = err_from_is_err_and c.from_residual.result c.from_residual.ensures.1 in
+    let e : c.from_residual.result ≡ lawfulness c.args.image.now =
+    p.1 ∙ ap Err p.2
+    ∙ sym (slot_refused c.args.image.now c.loop-slot.slot _ (sym c.if-not-well_sized.ensures) c.loop-slot-test.true c.loop-slot.invariant (sym c.in_err-check_slot.ensures)) in
+    record { value = e; judged = judged c.args.image.now _ e }
 
-pub returns-in-None : goal.returns-in-None
-returns-in-None c =
-    let a = answer c.args.image.now _ (sym c.in-None.is ∙ c.first_broken.ensures) in record { value = a.0; judged = a.1 }
+pub loop-slot-preserved : goal.loop-slot-preserved
+loop-slot-preserved c = none_more (fault_at c.args.image.now) c.loop-slot.slot c.loop-slot.invariant (ok_from _ (sym c.in_ok-check_slot.ensures))
+
+pub returns-in_err-check_ways_at : goal.returns-in_err-check_ways_at
+returns-in_err-check_ways_at c =
+    let p = err_from_is_err_and c.from_residual-in_err-check_ways_at.result c.from_residual-in_err-check_ways_at.ensures.1 in
+    let done : c.loop-slot.slot ≡ length c.args.image.now / 8 = omega arith in
+    let e : c.from_residual-in_err-check_ways_at.result ≡ lawfulness c.args.image.now =
+    p.1 ∙ ap Err p.2
+    ∙ sym (way_refused c.args.image.now c.loop-slot-2.slot _ (sym c.if-not-well_sized.ensures) c.loop-slot-2-test.true
+    (subst (λ n. first_below (fault_at c.args.image.now) n ≡ None) done c.loop-slot.invariant) c.loop-slot-2.invariant (sym c.in_err-check_ways_at.ensures)) in
+    record { value = e; judged = judged c.args.image.now _ e }
+
+pub loop-slot-2-preserved : goal.loop-slot-2-preserved
+loop-slot-2-preserved c = none_more (leaving_at c.args.image.now _) c.loop-slot-2.slot c.loop-slot-2.invariant (ok_from _ (sym c.in_ok-check_ways_at.ensures))
+
+pub returns-clause-judged : goal.returns-clause-judged
+returns-clause-judged c = judged c.args.image.now _ (search rules)

@@ -3,7 +3,7 @@
 --     written_by x z, read_by x z     the place that a store writes, and the one that a load reads
 --     second_of x s w   the second operand
 --     text_of x         the whole instruction
-use Rattle.std.specs.Prelude.{ℕ, cond, List, ◌++◌, codes, decimal}
+use Rattle.std.specs.Prelude.{ℕ, if◌then◌else◌, List, ◌++◌, codes, decimal}
 use Rattle.std.specs.Fmt.{signed_decimal}
 use Rattle.isa.specs.declared.kind.Width.{Width}
 use Rattle.isa.specs.declared.kind.Width.TheVariants.{Full64}
@@ -35,9 +35,9 @@ second_of x s w = record { source = s; width = w; fields = x.fields }
 -- NEG has one operand, which it writes back
 abbrev pub arithmetic_text : Instruction → Width → Operation → Source → List ℕ
 arithmetic_text x w o s =
-    cond (is_neg o)
-    (register_text (dst_of x w) ++ (codes " = -" ++ register_text (dst_of x w)))
-    (register_text (dst_of x w) ++ (codes " " ++ (assignment_of o ++ (codes " " ++ second_text (second_of x s w)))))
+    if is_neg o
+    then register_text (dst_of x w) ++ (codes " = -" ++ register_text (dst_of x w))
+    else register_text (dst_of x w) ++ (codes " " ++ (assignment_of o ++ (codes " " ++ second_text (second_of x s w))))
 
 abbrev pub text_by : Kind → Instruction → List ℕ
 text_by (Arithmetic w o s) x = arithmetic_text x w o s

@@ -77,6 +77,7 @@ impl fmt::Display for Place {
 #[derive(Clone, Copy)]
 pub struct Distance(pub i16);
 
+// Stays: tried `{:+}`, which std states by its padding: three lemmas in place of two arms.
 impl fmt::Display for Distance {
     ghost output = { λ x. Some (distance_text x) };
 

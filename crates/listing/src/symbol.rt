@@ -1,4 +1,5 @@
 // The symbols of operations, tests and sizes.
+// Stays: a Display of each enum would stand in `isa`, which leaves the text of an instruction to this crate.
 ghost use Rattle.std.specs.Prelude.{◌≡◌};
 ghost use Rattle.listing.specs.Symbol.{assignment_of, comparison_of, size_name};
 

@@ -1,11 +1,11 @@
 // An instruction as text.
 ghost use Rattle.std.specs.Prelude.{◌≡◌, Some};
-ghost use Rattle.listing.specs.Text.{dst_of, written_by, read_by, text_of};
+ghost use Rattle.listing.specs.Text.{dst_of, second_of, written_by, read_by, text_of};
 
 use crate::operand::{Distance, Place, Register, Second};
 use crate::symbol::{assignment, comparison};
 use isa::instruction::Instruction;
-use isa::kind::{Kind, Operation, Size, Width};
+use isa::kind::{Kind, Operation, Size, Source, Width};
 use std::fmt;
 
 #[derive(Clone, Copy)]
@@ -21,7 +21,18 @@ impl Text {
         }
     }
 
+    fn second(self, source: Source, width: Width) -> Second
+        ensures { result ≡ second_of self.0 source width }
+    {
+        Second {
+            source,
+            width,
+            fields: self.0.fields,
+        }
+    }
+
     // where a store writes
+    // Stays: `read` differs in a field, not in a type or a size, and each has its definition.
     fn written(self, size: Size) -> Place
         ensures { result ≡ written_by self.0 size }
     {
@@ -56,43 +67,26 @@ impl fmt::Display for Text {
                 let dst = self.dst(width);
                 write!(f, "{dst} = -{dst}")
             }
-            Kind::Arithmetic(width, operation, source) => {
-                let dst = self.dst(width);
-                let sign = assignment(operation);
-                let second = Second {
-                    source,
-                    width,
-                    fields,
-                };
-                write!(f, "{dst} {sign} {second}")
-            }
-            Kind::Branch(width, test, source) => {
-                let dst = self.dst(width);
-                let sign = comparison(test);
-                let second = Second {
-                    source,
-                    width,
-                    fields,
-                };
-                write!(f, "if {dst} {sign} {second} goto {distance}")
-            }
+            Kind::Arithmetic(width, operation, source) => write!(
+                f,
+                "{} {} {}",
+                self.dst(width),
+                assignment(operation),
+                self.second(source, width)
+            ),
+            Kind::Branch(width, test, source) => write!(
+                f,
+                "if {} {} {} goto {distance}",
+                self.dst(width),
+                comparison(test),
+                self.second(source, width)
+            ),
             Kind::Jump => write!(f, "goto {distance}"),
             Kind::Call => write!(f, "call {imm}"),
             Kind::Exit => write!(f, "exit"),
-            Kind::Load(size) => {
-                let dst = self.dst(Width::Full64);
-                let place = self.read(size);
-                write!(f, "{dst} = {place}")
-            }
-            Kind::StoreImm(size) => {
-                let place = self.written(size);
-                write!(f, "{place} = {imm}")
-            }
-            Kind::StoreReg(size) => {
-                let place = self.written(size);
-                let src = fields.src;
-                write!(f, "{place} = r{src}")
-            }
+            Kind::Load(size) => write!(f, "{} = {}", self.dst(Width::Full64), self.read(size)),
+            Kind::StoreImm(size) => write!(f, "{} = {imm}", self.written(size)),
+            Kind::StoreReg(size) => write!(f, "{} = r{}", self.written(size), fields.src),
         }
     }
 }

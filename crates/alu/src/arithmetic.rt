@@ -1,52 +1,41 @@
 // Arithmetic at 32 and at 64 bits.
 ghost use Rattle.std.specs.Prelude.{◌≡◌};
-ghost use Rattle.std.specs.Int.{w32, w64};
-ghost use Rattle.alu.specs.Arithmetic.{result_at, applied};
+ghost use Rattle.alu.specs.Arithmetic.{applied};
 
-use crate::width::low_half;
+use crate::width::{low, shift, signed};
 use isa::kind::{Operation, Width};
 
-// An operation on two numbers of one type.
-macro_rules! result {
-    ($number:ty, $operation:expr, $dst:expr, $source:expr) => {{
-        let zero: $number = 0;
-        let count = ($source % <$number>::BITS as $number) as u32;
-        match $operation {
-            Operation::Add => $dst.wrapping_add($source),
-            Operation::Sub => $dst.wrapping_sub($source),
-            Operation::Mul => $dst.wrapping_mul($source),
-            Operation::Div => if $source == 0 { 0 } else { $dst / $source },
-            Operation::Or => $dst | $source,
-            Operation::And => $dst & $source,
-            Operation::Lsh => $dst.wrapping_shl(count),
-            Operation::Rsh => $dst.wrapping_shr(count),
-            Operation::Neg => zero.wrapping_sub($dst),
-            Operation::Mod => if $source == 0 { $dst } else { $dst % $source },
-            Operation::Xor => $dst ^ $source,
-            Operation::Mov => $source,
-            Operation::Arsh => $dst.cast_signed().wrapping_shr(count).cast_unsigned(),
-        }
-    }};
-}
-
-fn apply64(operation: Operation, dst: u64, source: u64) -> u64
-    ensures { result ≡ result_at w64 operation dst source }
+#[inline(always)]
+fn apply_at_width(width: Width, operation: Operation, dst: u64, source: u64) -> u64
+    ensures { result ≡ applied width operation dst source }
 {
-    result!(u64, operation, dst, source)
-}
-
-fn apply32(operation: Operation, dst: u32, source: u32) -> u32
-    ensures { result ≡ result_at w32 operation dst source }
-{
-    result!(u32, operation, dst, source)
+    let (dst, source) = (low(width, dst), low(width, source));
+    let count = shift(width, source);
+    match operation {
+        Operation::Add => low(width, dst.wrapping_add(source)),
+        Operation::Sub => low(width, dst.wrapping_sub(source)),
+        Operation::Mul => low(width, dst.wrapping_mul(source)),
+        Operation::Div => dst.checked_div(source).unwrap_or(0),
+        Operation::Or => dst | source,
+        Operation::And => dst & source,
+        Operation::Lsh => low(width, dst << count),
+        Operation::Rsh => dst >> count,
+        Operation::Neg => low(width, 0u64.wrapping_sub(dst)),
+        Operation::Mod => dst.checked_rem(source).unwrap_or(dst),
+        Operation::Xor => dst ^ source,
+        Operation::Mov => source,
+        Operation::Arsh => low(width, (signed(width, dst) >> count).cast_unsigned()),
+    }
 }
 
 // What an operation leaves in dst. At 32 bits the high half is cleared.
+// Stays: the two operands are the arguments of an operation, and the width says how it takes them.
 pub fn apply(width: Width, operation: Operation, dst: u64, source: u64) -> u64
     ensures { result ≡ applied width operation dst source }
 {
+    // A copy for each width, so that what the width decides is decided once.
     match width {
-        Width::Low32 => apply32(operation, low_half(dst), low_half(source)) as u64,
-        Width::Full64 => apply64(operation, dst, source),
+        Width::Low32 => apply_at_width(Width::Low32, operation, dst, source),
+        Width::Full64 => apply_at_width(Width::Full64, operation, dst, source),
     }
 }

@@ -1,48 +1,39 @@
 // The tests of conditional jumps, at 32 and at 64 bits.
 ghost use Rattle.std.specs.Prelude.{◌≡◌};
-ghost use Rattle.std.specs.Int.{w32, w64};
-ghost use Rattle.alu.specs.Comparison.{holds_at, compared};
+ghost use Rattle.alu.specs.Comparison.{compared};
 
-use crate::width::low_half;
+use crate::width::{low, signed};
 use isa::kind::{Test, Width};
 
-// A test of two numbers of one type.
-macro_rules! passes {
-    ($test:expr, $dst:expr, $source:expr) => {
-        match $test {
-            Test::Eq => $dst == $source,
-            Test::Gt => $dst > $source,
-            Test::Ge => $dst >= $source,
-            Test::Set => $dst & $source != 0,
-            Test::Ne => $dst != $source,
-            Test::Sgt => $dst.cast_signed() > $source.cast_signed(),
-            Test::Sge => $dst.cast_signed() >= $source.cast_signed(),
-            Test::Lt => $dst < $source,
-            Test::Le => $dst <= $source,
-            Test::Slt => $dst.cast_signed() < $source.cast_signed(),
-            Test::Sle => $dst.cast_signed() <= $source.cast_signed(),
-        }
-    };
-}
-
-fn holds64(test: Test, dst: u64, source: u64) -> bool
-    ensures { result ≡ holds_at w64 test dst source }
+#[inline(always)]
+fn holds_at_width(width: Width, test: Test, dst: u64, source: u64) -> bool
+    ensures { result ≡ compared width test dst source }
 {
-    passes!(test, dst, source)
-}
-
-fn holds32(test: Test, dst: u32, source: u32) -> bool
-    ensures { result ≡ holds_at w32 test dst source }
-{
-    passes!(test, dst, source)
+    let (dst, source) = (low(width, dst), low(width, source));
+    let (signed_dst, signed_source) = (signed(width, dst), signed(width, source));
+    match test {
+        Test::Eq => dst == source,
+        Test::Gt => dst > source,
+        Test::Ge => dst >= source,
+        Test::Set => dst & source != 0,
+        Test::Ne => dst != source,
+        Test::Sgt => signed_dst > signed_source,
+        Test::Sge => signed_dst >= signed_source,
+        Test::Lt => dst < source,
+        Test::Le => dst <= source,
+        Test::Slt => signed_dst < signed_source,
+        Test::Sle => signed_dst <= signed_source,
+    }
 }
 
 // Whether a test holds of dst and the source value.
+// Stays: the two operands are the arguments of a test, and the width says how it takes them.
 pub fn holds(width: Width, test: Test, dst: u64, source: u64) -> bool
     ensures { result ≡ compared width test dst source }
 {
+    // A copy for each width, so that what the width decides is decided once.
     match width {
-        Width::Low32 => holds32(test, low_half(dst), low_half(source)),
-        Width::Full64 => holds64(test, dst, source),
+        Width::Low32 => holds_at_width(Width::Low32, test, dst, source),
+        Width::Full64 => holds_at_width(Width::Full64, test, dst, source),
     }
 }

@@ -1,5 +1,5 @@
 -- A process is deterministic: after n steps it stands where n steps computed in a row lead.
-use Rattle.std.proofs.Common.{◌≡◌, ℕ, zero, suc, ◌<◌, ◌≤◌, Bool, true, false, cond, ◌⊎◌, sym, refl, ap, ◌∙◌, subst, inl, inr, ⊎_elim, arith}
+use Rattle.std.proofs.Common.{◌≡◌, ℕ, zero, suc, ◌<◌, ◌≤◌, Bool, true, false, cond, ◌⊎◌, sym, refl, ap, ◌∙◌, subst, inl, inr, ⊎_elim, arith, below_more}
 use Rattle.std.proofs.lemmas.Bool.{cases_eq, cases_lt, cond-true, cond-false}
 use Rattle.machine.specs.Process.{Process, Steps, Steps.begin, Steps.plain, Steps.save, AfterSaves, AfterSaves.none, AfterSaves.left, Deterministic}
 
@@ -25,16 +25,14 @@ module _ {S : Type 0} (p : Process S) where
   goes_before : {n k : ℕ} {σ : S} → Steps p n k σ → (m : ℕ) → m < n → p.ended (at m) ≡ false
   goes_before begin m h = absurd (omega arith)
   goes_before (plain {n} s goes not_save) m h =
-      ⊎_elim (λ (e : m ≡ n). ap (λ i. p.ended (at i)) e ∙ ap p.ended (sym (is_at s).1) ∙ goes)
-      (λ (ne : m ≡ n → ⊥). goes_before s m (omega arith)) (cases_eq m n)
+      below_more (λ i. p.ended (at i) ≡ false) n (goes_before s) (ap p.ended (sym (is_at s).1) ∙ goes) m (omega arith)
   goes_before (save {n} s goes saves) m h =
-      ⊎_elim (λ (e : m ≡ n). ap (λ i. p.ended (at i)) e ∙ ap p.ended (sym (is_at s).1) ∙ goes)
-      (λ (ne : m ≡ n → ⊥). goes_before s m (omega arith)) (cases_eq m n)
+      below_more (λ i. p.ended (at i) ≡ false) n (goes_before s) (ap p.ended (sym (is_at s).1) ∙ goes) m (omega arith)
 
   -- a process that has ended takes no further step
   no_later_end : (n n' k' : ℕ) (σ' : S) → p.ended (at n) ≡ true → Steps p n' k' σ' → n < n' → ⊥
   no_later_end n n' k' σ' over s h =
-      let goes = goes_before s n h in let z : ◌≡◌ {A = ℕ} 0 1 = cc in omega (arith, z)
+      let goes = goes_before s n h in cc
 
   counts_on : (b : Bool) (k : ℕ) → k ≤ cond b (suc k) k
   counts_on true k = omega arith

@@ -46,7 +46,7 @@ module _ (image tape : List ℕ) where
       (record { led = so_far.led; within = let w = so_far.within in omega arith; stopped = λ _. over }))
       (λ (goes : ended r.state ≡ false).
       let stopped : r.steps + 1 < suc n → ended (mains_step image tape r.state) ≡ true =
-      λ h. let over = so_far.stopped (omega arith) in let z : ◌≡◌ {A = ℕ} 0 1 = cc in absurd (omega (arith, z)) in
+      λ h. let over = so_far.stopped (omega arith) in cc in
       subst (λ (q : Run). Reached image tape (suc n) q) (sym (cond-false _ _ _ goes))
       (record {
         led = led_on r.steps r.state so_far.led goes;
@@ -58,3 +58,7 @@ module _ (image tape : List ℕ) where
   pub reached : (n : ℕ) → Reached image tape n (run_of image tape n)
   reached zero = record { led = (0, begin); within = omega arith; stopped = λ h. absurd (omega arith) }
   reached (suc n) = on n (run_of image tape n) (reached n)
+
+  -- a run that was computed was reached
+  pub meant : (n : ℕ) (r : Run) → r ≡ run_of image tape n → Reached image tape n r
+  meant n r e = subst (λ (q : Run). Reached image tape n q) (sym e) (reached n)

@@ -1,5 +1,5 @@
 -- What a step means: what it leaves as it was, and what it tells.
-use Rattle.std.proofs.Common.{◌≡◌, ℕ, Bool, true, false, cond, ltb, ◌⊎◌, List, length, ℤ, Some, None, Option, sym, refl, ap, ◌∙◌, subst, inl, inr, ⊎_elim, arith}
+use Rattle.std.proofs.Common.{◌≡◌, ℕ, Bool, true, false, cond, ltb, ◌⊎◌, List, length, ℤ, Some, None, Option, sym, refl, ap, ◌∙◌, subst, inl, inr, ⊎_elim}
 use Rattle.std.proofs.lemmas.Bool.{cases_Bool, cond-true, cond-false}
 use Rattle.isa.specs.declared.kind.Size.{Size}
 use Rattle.isa.specs.declared.kind.Kind.{Kind}
@@ -26,9 +26,6 @@ use Rattle.machine.specs.Operand.{source_value, address_of}
 use Rattle.machine.specs.State.{register_of, moved_to, ended_by, ended}
 use Rattle.machine.specs.Step.{step_by, effect_at, is_save, saves_as, saves_by, saves_at, mains_step, mains_effect, LeadsTo, StepLaws}
 
-both : {A : Type 0} {b : Bool} → b ≡ true → b ≡ false → A
-both p q = let z : ◌≡◌ {A = ℕ} 0 1 = cc in absurd (omega (arith, z))
-
 module _ (σ : State) (goes : ended σ ≡ false) where
   -- if τ has ended, then nothing else of σ was changed
   Alone : State → Type 0
@@ -36,7 +33,7 @@ module _ (σ : State) (goes : ended σ ≡ false) where
 
   going : (τ : State) → ended τ ≡ ended σ → Alone τ
   unfolding Alone
-  going τ same over = both over (same ∙ goes)
+  going τ same over = cc
 
   stopping : (e : Ending) → Alone (ended_by σ e)
   unfolding Alone
@@ -81,7 +78,7 @@ Follows k x τ =
 module _ (σ : State) (x : Instruction) where
   stopped : (k : Kind) (e : Ending) → Follows k x (ended_by σ e)
   unfolding Follows
-  stopped k e goes = both refl goes
+  stopped k e goes = cc
 
   follows_either : (k : Kind) (b : Bool) (τ υ : State) → Follows k x τ → Follows k x υ → Follows k x (cond b τ υ)
   follows_either k true τ υ p q = p
@@ -119,20 +116,20 @@ stepped_follows : (o : Option Instruction) (tape : List ℕ) (σ : State) → en
     → (x : Instruction) × (o ≡ Some x) × LeadsTo x (step_by o tape σ).slot
 unfolding Follows
 stepped_follows (Some x) tape σ goes = (x, refl, executed_follows σ x x.kind tape goes)
-stepped_follows None tape σ goes = both refl goes
+stepped_follows None tape σ goes = cc
 
 -- a step that does not end the run began at a state that had not ended
 began : (image tape : List ℕ) (σ : State) → ended (mains_step image tape σ) ≡ false → ended σ ≡ false
 unfolding mains_step
 began image tape σ goes =
-    ⊎_elim (λ (over : ended σ ≡ true). both over (ap ended (sym (cond-true _ _ _ over)) ∙ goes)) (λ (h : ended σ ≡ false). h) (cases_Bool (ended σ))
+    ⊎_elim (λ (over : ended σ ≡ true). ap ended (sym (cond-true _ _ _ over)) ∙ goes) (λ (h : ended σ ≡ false). h) (cases_Bool (ended σ))
 
 -- the helper that makes a CALL a save changes the slot alone
 save_called : (h : Option Helper) (tape : List ℕ) (x : Instruction) (σ : State) → saves_as (role_of_call h) ≡ true → called_by h tape x σ ≡ went_on x σ
 save_called (Some helper.Save) tape x σ save = refl
-save_called (Some helper.NextReading) tape x σ save = both save refl
-save_called (Some helper.Record) tape x σ save = both save refl
-save_called None tape x σ save = both save refl
+save_called (Some helper.NextReading) tape x σ save = cc
+save_called (Some helper.Record) tape x σ save = cc
+save_called None tape x σ save = cc
 
 idle_saves_not : (b : Bool) → saves_as (cond b role.Idle role.Other) ≡ false
 idle_saves_not true = refl
@@ -140,18 +137,18 @@ idle_saves_not false = refl
 
 save_moves : (k : Kind) (tape : List ℕ) (x : Instruction) (σ : State) → saves_as (role_by k x.fields.offset x.fields.imm) ≡ true
     → executed_by k tape x σ ≡ went_on x σ
-save_moves (Arithmetic w o s) tape x σ save = both save refl
-save_moves (Branch w t s) tape x σ save = both save refl
-save_moves Jump tape x σ save = both save (idle_saves_not (holds x.fields.offset 0))
+save_moves (Arithmetic w o s) tape x σ save = cc
+save_moves (Branch w t s) tape x σ save = cc
+save_moves Jump tape x σ save = let no = idle_saves_not (holds x.fields.offset 0) in cc
 save_moves Call tape x σ save = save_called (helper_of x.fields.imm) tape x σ save
-save_moves Exit tape x σ save = both save refl
-save_moves (Load z) tape x σ save = both save refl
-save_moves (StoreImm z) tape x σ save = both save refl
-save_moves (StoreReg z) tape x σ save = both save refl
+save_moves Exit tape x σ save = cc
+save_moves (Load z) tape x σ save = cc
+save_moves (StoreImm z) tape x σ save = cc
+save_moves (StoreReg z) tape x σ save = cc
 
 saved_moves : (o : Option Instruction) (tape : List ℕ) (σ : State) → saves_by o ≡ true → (z : ℤ) × (step_by o tape σ ≡ moved_to σ z)
 saved_moves (Some x) tape σ save = (next_of x, save_moves x.kind tape x σ save)
-saved_moves None tape σ save = both save refl
+saved_moves None tape σ save = cc
 
 not_save : (e : Bool) (x : Work) → is_save (cond e (End x) (Other x)) ≡ false
 not_save true x = refl

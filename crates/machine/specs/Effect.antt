@@ -1,7 +1,7 @@
 -- What a step did, as far as charge is spent on it. Assumes nothing.
 --     work_of x σ           an instruction with the operands that it has at σ
 --     effect_in r e x       its effect: a save, an end of the run where e says so, or neither
-use Rattle.std.specs.Prelude.{Bool, cond}
+use Rattle.std.specs.Prelude.{Bool, if◌then◌else◌}
 use Rattle.isa.specs.declared.instruction.Instruction.{Instruction}
 use Rattle.isa.specs.declared.instruction.Role.{Role}
 use Rattle.isa.specs.declared.instruction.Role.TheVariants as role
@@ -17,6 +17,6 @@ work_of x σ =
 
 abbrev pub effect_in : Role → Bool → Work → Effect
 effect_in role.Save e x = Save x
-effect_in role.Idle e x = cond e (End x) (Other x)
-effect_in role.Exit e x = cond e (End x) (Other x)
-effect_in role.Other e x = cond e (End x) (Other x)
+effect_in role.Idle e x = if e then End x else Other x
+effect_in role.Exit e x = if e then End x else Other x
+effect_in role.Other e x = if e then End x else Other x

@@ -10,7 +10,7 @@
 --     called tape x σ        CALL: the helper that imm names; a save changes the slot alone
 --     executed tape x σ     any instruction
 -- An access outside memory, a finished tape and a full log end the run.
-use Rattle.std.specs.Prelude.{ℕ, ◌+◌, ◌%◌, cond, List, length, Some, None, Option, nat_lt, slice_index}
+use Rattle.std.specs.Prelude.{ℕ, ◌+◌, ◌%◌, if◌then◌else◌, List, length, Some, None, Option, nat_lt, slice_index}
 use Rattle.std.specs.Int.{w64}
 use Rattle.std.proofs.Common.{of_z}
 use Rattle.isa.specs.declared.kind.Width.{Width}
@@ -45,7 +45,7 @@ computed w o s x σ =
     went_on x (with_register σ x.fields.dst (applied w o (register_of σ x.fields.dst) (source_value s x σ)))
 
 abbrev pub branched : Width → Test → Source → Instruction → State → State
-branched w t s x σ = cond (compared w t (register_of σ x.fields.dst) (source_value s x σ)) (jumped x σ) (went_on x σ)
+branched w t s x σ = if compared w t (register_of σ x.fields.dst) (source_value s x σ) then jumped x σ else went_on x σ
 
 abbrev pub read_as : Option ℕ → Instruction → State → State
 read_as (Some v) x σ = went_on x (with_register σ x.fields.dst v)
@@ -56,21 +56,21 @@ read_from z x σ = read_as (loaded σ.memory (address_of x.fields.src x σ) z) x
 
 abbrev pub written_to : Size → ℕ → Instruction → State → State
 written_to z v x σ =
-    cond (inside (address_of x.fields.dst x σ) z)
-    (went_on x (with_memory σ (stored σ.memory (address_of x.fields.dst x σ) z v)))
-    (ended_by σ (ending.Trap OutsideMemory))
+    if inside (address_of x.fields.dst x σ) z
+    then went_on x (with_memory σ (stored σ.memory (address_of x.fields.dst x σ) z v))
+    else ended_by σ (ending.Trap OutsideMemory)
 
 abbrev pub sampled : List ℕ → Instruction → State → State
 sampled tape x σ =
-    cond (nat_lt σ.place (length tape))
-    (went_on x (with_register (with_place σ (σ.place + 1)) 0 (slice_index tape σ.place)))
-    (ended_by σ (ending.Trap TapeFinished))
+    if nat_lt σ.place (length tape)
+    then went_on x (with_register (with_place σ (σ.place + 1)) 0 (slice_index tape σ.place))
+    else ended_by σ (ending.Trap TapeFinished)
 
 abbrev pub recorded : Instruction → State → State
 recorded x σ =
-    cond (nat_lt σ.logged 64)
-    (went_on x (with_register (with_record σ (record { sensor = register_of σ 1 % 256; value = register_of σ 2 })) 0 0))
-    (ended_by σ (ending.Trap LogFull))
+    if nat_lt σ.logged 64
+    then went_on x (with_register (with_record σ (record { sensor = register_of σ 1 % 256; value = register_of σ 2 })) 0 0)
+    else ended_by σ (ending.Trap LogFull)
 
 -- a CALL that names no helper is no legal instruction
 abbrev pub called_by : Option Helper → List ℕ → Instruction → State → State

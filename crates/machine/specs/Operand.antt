@@ -3,7 +3,7 @@
 --     address_of r x σ       a register plus the offset, going round at 64 bits
 --     operands_of k x σ      the two operands that a price may depend on: dst and source value of arithmetic and of a conditional
 --                            jump (NEG has no second), address and cut value of a store, r1 and r2 of CALL, else 0 and 0
-use Rattle.std.specs.Prelude.{ℕ, ◌+◌, ◌%◌, ◌^◌, cond}
+use Rattle.std.specs.Prelude.{ℕ, ◌+◌, ◌%◌, ◌^◌, if◌then◌else◌}
 use Rattle.std.specs.Int.{w64}
 use Rattle.std.proofs.Common.{of_z}
 use Rattle.isa.specs.declared.kind.Operation.{Operation}
@@ -25,7 +25,7 @@ abbrev pub address_of : ℕ → Instruction → State → ℕ
 address_of r x σ = (register_of σ r + of_z w64 x.fields.offset) % 2 ^ 64
 
 abbrev pub second_of : Operation → Source → Instruction → State → ℕ
-second_of o s x σ = cond (is_neg o) 0 (source_value s x σ)
+second_of o s x σ = if is_neg o then 0 else source_value s x σ
 
 abbrev pub operands_of : Kind → Instruction → State → ℕ × ℕ
 operands_of (Arithmetic w o s) x σ = (register_of σ x.fields.dst, second_of o s x σ)

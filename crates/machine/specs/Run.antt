@@ -3,7 +3,7 @@
 --     run_of image tape n        where at most n steps lead, stopping at the ending, and how many they were
 --     Reached image tape n r     the same said without computing it: r.steps steps of the run lead to r.state, n of them or,
 --                                where the run has ended, fewer
-use Rattle.std.specs.Prelude.{◌≡◌, ℕ, zero, suc, ◌+◌, ◌<◌, ◌≤◌, true, cond, List}
+use Rattle.std.specs.Prelude.{◌≡◌, ℕ, zero, suc, ◌+◌, ◌<◌, ◌≤◌, true, if◌then◌else◌, List}
 use Rattle.machine.specs.declared.state.State.{State}
 use Rattle.machine.specs.declared.run.Run.{Run}
 use Rattle.machine.specs.Process.{Process, Steps}
@@ -20,7 +20,7 @@ mains image tape = record {
 
 abbrev pub onward : List ℕ → List ℕ → Run → Run
 onward image tape r =
-    cond (ended r.state) r (record { state = mains_step image tape r.state; steps = r.steps + 1 })
+    if ended r.state then r else record { state = mains_step image tape r.state; steps = r.steps + 1 }
 
 abbrev pub run_of : List ℕ → List ℕ → ℕ → Run
 run_of image tape zero = record { state = initial; steps = 0 }

@@ -6,7 +6,7 @@
 --     saves_at image σ               the instruction at the slot is a save
 --     LeadsTo x z                    slot z is a way out of an instruction
 --     StepLaws image tape σ          what a step leaves as it was, where it leads, and what it tells
-use Rattle.std.specs.Prelude.{◌≡◌, ℕ, Bool, true, false, cond, ◌⊎◌, List, ℤ, Some, None, Option}
+use Rattle.std.specs.Prelude.{◌≡◌, ℕ, Bool, true, false, if◌then◌else◌, ◌⊎◌, List, ℤ, Some, None, Option}
 use Rattle.isa.specs.declared.instruction.Instruction.{Instruction}
 use Rattle.isa.specs.declared.instruction.Role.{Role}
 use Rattle.isa.specs.declared.instruction.Role.TheVariants as role
@@ -27,7 +27,7 @@ step_by (Some x) tape σ = executed tape x σ
 step_by None tape σ = ended_by σ (ending.Trap BadSlot)
 
 unfoldable pub mains_step : List ℕ → List ℕ → State → State
-mains_step image tape σ = cond (ended σ) σ (step_by (fetched image σ.slot) tape σ)
+mains_step image tape σ = if ended σ then σ else step_by (fetched image σ.slot) tape σ
 
 abbrev pub effect_by : Instruction → List ℕ → State → Effect
 effect_by x tape σ = effect_in (role_of x) (ended (executed tape x σ)) (work_of x σ)
@@ -37,7 +37,7 @@ effect_at (Some x) tape σ = effect_by x tape σ
 effect_at None tape σ = effect.NoInstruction
 
 unfoldable pub mains_effect : List ℕ → List ℕ → State → Effect
-mains_effect image tape σ = cond (ended σ) effect.Nothing (effect_at (fetched image σ.slot) tape σ)
+mains_effect image tape σ = if ended σ then effect.Nothing else effect_at (fetched image σ.slot) tape σ
 
 abbrev pub is_save : Effect → Bool
 is_save effect.Nothing = false

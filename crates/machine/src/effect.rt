@@ -1,10 +1,10 @@
 // What a step did, as far as charge is spent on it.
 ghost use Rattle.std.specs.Prelude.{◌≡◌};
-ghost use Rattle.isa.specs.Instruction.{Registered};
 ghost use Rattle.machine.specs.Effect.{work_of, effect_in};
 
+use crate::executable::Executable;
 use crate::state::State;
-use isa::instruction::{Instruction, Role};
+use isa::instruction::Role;
 
 // What charge is spent on: an instruction, with its two operands.
 #[derive(Clone, Copy)]
@@ -30,14 +30,14 @@ pub enum Effect {
 
 impl State {
     // An instruction with the operands that it has at this state.
-    pub(crate) fn work(&self, instruction: Instruction) -> Work
-        requires { Registered instruction }
-        ensures { result ≡ work_of instruction self.now }
+    pub(crate) fn work(&self, executable: &Executable) -> Work
+        ensures { result ≡ work_of executable.now.instruction self.now }
     {
-        let (a, b) = self.operands(instruction);
+        let (a, b) = self.operands(executable);
+        let fields = executable.instruction.fields;
         Work {
-            opcode: instruction.fields.opcode,
-            imm: instruction.fields.imm,
+            opcode: fields.opcode,
+            imm: fields.imm,
             a,
             b,
         }
@@ -50,12 +50,7 @@ pub(crate) fn effect_in(role: Role, ended: bool, work: Work) -> Effect
 {
     match role {
         Role::Save => Effect::Save(work),
-        _ => {
-            if ended {
-                Effect::End(work)
-            } else {
-                Effect::Other(work)
-            }
-        }
+        _ if ended => Effect::End(work),
+        _ => Effect::Other(work),
     }
 }

@@ -1,9 +1,9 @@
 // What each kind of instruction does to a state.
 ghost use Rattle.std.specs.Prelude.{◌≡◌};
-ghost use Rattle.isa.specs.Instruction.{Registered};
 ghost use Rattle.machine.specs.Execute.{computed, branched, read_from, written_to, sampled, recorded, called, executed};
 
 use crate::ending::{Ending, Trap};
+use crate::executable::Executable;
 use crate::state::{LOG, Record, State};
 use alu::arithmetic::apply;
 use alu::comparison::holds;
@@ -14,38 +14,39 @@ use isa::instruction::Instruction;
 use isa::kind::{Kind, Operation, Size, Source, Test, Width};
 
 impl State {
+    // Stays: width, operation and source are what the match on the kind found, and go no further.
     fn compute(
         &mut self,
-        instruction: Instruction,
+        executable: &Executable,
         width: Width,
         operation: Operation,
         source: Source,
     )
-        requires { Registered instruction }
-        ensures { self.new ≡ computed width operation source instruction self.old }
+        ensures { self.new ≡ computed width operation source executable.now.instruction self.old }
     {
+        let instruction = executable.instruction;
         let dst = self.read(instruction.fields.dst);
-        let value = self.source_value(instruction, source);
+        let value = self.source_value(executable, source);
         self.write(instruction.fields.dst, apply(width, operation, dst, value));
         self.go_on(instruction);
     }
 
-    fn branch(&mut self, instruction: Instruction, width: Width, test: Test, source: Source)
-        requires { Registered instruction }
-        ensures { self.new ≡ branched width test source instruction self.old }
+    fn branch(&mut self, executable: &Executable, width: Width, test: Test, source: Source)
+        ensures { self.new ≡ branched width test source executable.now.instruction self.old }
     {
+        let instruction = executable.instruction;
         let dst = self.read(instruction.fields.dst);
-        if holds(width, test, dst, self.source_value(instruction, source)) {
+        if holds(width, test, dst, self.source_value(executable, source)) {
             self.jump(instruction);
         } else {
             self.go_on(instruction);
         }
     }
 
-    fn read_from(&mut self, instruction: Instruction, size: Size)
-        requires { Registered instruction }
-        ensures { self.new ≡ read_from size instruction self.old }
+    fn read_from(&mut self, executable: &Executable, size: Size)
+        ensures { self.new ≡ read_from size executable.now.instruction self.old }
     {
+        let instruction = executable.instruction;
         let address = self.address(instruction.fields.src, instruction);
         match load(&self.memory, address, size) {
             Some(value) => {
@@ -56,15 +57,14 @@ impl State {
         }
     }
 
-    fn write_to(&mut self, instruction: Instruction, size: Size, value: u64)
-        requires { Registered instruction }
-        ensures { self.new ≡ written_to size value instruction self.old }
+    fn write_to(&mut self, executable: &Executable, size: Size, value: u64)
+        ensures { self.new ≡ written_to size value executable.now.instruction self.old }
     {
+        let instruction = executable.instruction;
         let address = self.address(instruction.fields.dst, instruction);
-        if store(&mut self.memory, address, size, value) {
-            self.go_on(instruction);
-        } else {
-            self.end(Ending::Trap(Trap::OutsideMemory));
+        match store(&mut self.memory, address, size, value) {
+            Some(()) => self.go_on(instruction),
+            None => self.end(Ending::Trap(Trap::OutsideMemory)),
         }
     }
 
@@ -72,13 +72,13 @@ impl State {
     fn sample(&mut self, instruction: Instruction, tape: &[u32])
         ensures { self.new ≡ sampled tape.now instruction self.old }
     {
-        if self.place < tape.len() {
-            let reading = tape[self.place] as u64;
-            self.place += 1;
-            self.write(0, reading);
-            self.go_on(instruction);
-        } else {
-            self.end(Ending::Trap(Trap::TapeFinished));
+        match tape.get(self.place) {
+            Some(reading) => {
+                self.place += 1;
+                self.write(0, *reading as u64);
+                self.go_on(instruction);
+            }
+            None => self.end(Ending::Trap(Trap::TapeFinished)),
         }
     }
 
@@ -86,6 +86,7 @@ impl State {
     fn note(&mut self, instruction: Instruction)
         ensures { self.new ≡ recorded instruction self.old }
     {
+        // Stays: with `get_mut` nothing is known of the log afterwards, and the proof does not close.
         if self.logged < LOG {
             let sensor = (self.read(1) % 256) as u8;
             let value = self.read(2);
@@ -102,37 +103,32 @@ impl State {
         ensures { self.new ≡ called tape.now instruction self.old }
     {
         match helper_of(instruction.fields.imm) {
-            Some(helper) => match helper {
-                Helper::Save => self.go_on(instruction),
-                Helper::NextReading => self.sample(instruction, tape),
-                Helper::Record => self.note(instruction),
-            },
+            Some(Helper::Save) => self.go_on(instruction),
+            Some(Helper::NextReading) => self.sample(instruction, tape),
+            Some(Helper::Record) => self.note(instruction),
             None => self.end(Ending::Trap(Trap::BadSlot)),
         }
     }
 
-    pub(crate) fn execute(&mut self, instruction: Instruction, tape: &[u32])
-        requires { Registered instruction }
-        ensures { self.new ≡ executed tape.now instruction self.old }
+    pub(crate) fn execute(&mut self, executable: &Executable, tape: &[u32])
+        ensures { self.new ≡ executed tape.now executable.now.instruction self.old }
     {
+        let instruction = executable.instruction;
         match instruction.kind {
             Kind::Arithmetic(width, operation, source) => self.compute(
-                instruction,
-                width,
-                operation,
-                source,
+                executable, width, operation, source,
             ),
-            Kind::Branch(width, test, source) => self.branch(instruction, width, test, source),
+            Kind::Branch(width, test, source) => self.branch(executable, width, test, source),
             Kind::Jump => self.jump(instruction),
             Kind::Call => self.call(instruction, tape),
             Kind::Exit => self.end(Ending::Exit),
-            Kind::Load(size) => self.read_from(instruction, size),
+            Kind::Load(size) => self.read_from(executable, size),
             Kind::StoreImm(size) => {
-                self.write_to(instruction, size, sign_extended(instruction.fields.imm))
+                self.write_to(executable, size, sign_extended(instruction.fields.imm))
             }
             Kind::StoreReg(size) => {
                 let value = self.read(instruction.fields.src);
-                self.write_to(instruction, size, value);
+                self.write_to(executable, size, value);
             }
         }
     }

@@ -5,6 +5,7 @@
 pub mod effect;
 pub mod ending;
 pub mod example;
+mod executable;
 mod execute;
 mod fetch;
 mod operand;

@@ -1,8 +1,8 @@
 // The operands of an instruction, as a state gives them.
 ghost use Rattle.std.specs.Prelude.{◌≡◌, ◌≤◌};
-ghost use Rattle.isa.specs.Instruction.{Registered};
 ghost use Rattle.machine.specs.Operand.{source_value, address_of, second_of, operands_of};
 
+use crate::executable::Executable;
 use crate::state::State;
 use alu::width::sign_extended;
 use isa::instruction::Instruction;
@@ -11,13 +11,13 @@ use isa::size::cut_to;
 
 impl State {
     // The source value: imm, or the register src.
-    pub(crate) fn source_value(&self, instruction: Instruction, source: Source) -> u64
-        requires { Registered instruction }
-        ensures { result ≡ source_value source instruction self.now }
+    pub(crate) fn source_value(&self, executable: &Executable, source: Source) -> u64
+        ensures { result ≡ source_value source executable.now.instruction self.now }
     {
+        let fields = executable.instruction.fields;
         match source {
-            Source::Imm => sign_extended(instruction.fields.imm),
-            Source::Register => self.read(instruction.fields.src),
+            Source::Imm => sign_extended(fields.imm),
+            Source::Register => self.read(fields.src),
         }
     }
 
@@ -31,30 +31,29 @@ impl State {
     }
 
     // The second operand of arithmetic; NEG has none.
-    fn second(&self, instruction: Instruction, operation: Operation, source: Source) -> u64
-        requires { Registered instruction }
-        ensures { result ≡ second_of operation source instruction self.now }
+    fn second(&self, executable: &Executable, operation: Operation, source: Source) -> u64
+        ensures { result ≡ second_of operation source executable.now.instruction self.now }
     {
         match operation {
             Operation::Neg => 0,
-            _ => self.source_value(instruction, source),
+            _ => self.source_value(executable, source),
         }
     }
 
     // The two operands that the price of an instruction may depend on.
-    pub(crate) fn operands(&self, instruction: Instruction) -> (u64, u64)
-        requires { Registered instruction }
-        ensures { result ≡ operands_of instruction.kind instruction self.now }
+    pub(crate) fn operands(&self, executable: &Executable) -> (u64, u64)
+        ensures { result ≡ operands_of executable.now.instruction.kind executable.now.instruction self.now }
     {
+        let instruction = executable.instruction;
         let fields = instruction.fields;
         match instruction.kind {
             Kind::Arithmetic(_, operation, source) => (
                 self.read(fields.dst),
-                self.second(instruction, operation, source),
+                self.second(executable, operation, source),
             ),
             Kind::Branch(_, _, source) => (
                 self.read(fields.dst),
-                self.source_value(instruction, source),
+                self.source_value(executable, source),
             ),
             Kind::Call => (self.read(1), self.read(2)),
             Kind::StoreImm(size) => (

@@ -5,7 +5,6 @@ ghost use Rattle.machine.specs.State.{ended};
 
 use crate::ending::Ending;
 use crate::state::{LOG, Record, State};
-use alu::memory::MEMORY;
 
 impl State {
     pub fn slot(&self) -> i32
@@ -18,22 +17,14 @@ impl State {
     pub fn register(&self, number: u8) -> Option<u64>
         ensures { result ≡ register_in self.now number }
     {
-        if number <= 10 {
-            Some(self.regs[number as usize])
-        } else {
-            None
-        }
+        self.regs.get(number as usize).copied()
     }
 
     // A byte of memory.
     pub fn byte(&self, address: usize) -> Option<u8>
         ensures { result ≡ byte_in self.now address }
     {
-        if address < MEMORY {
-            Some(self.memory[address])
-        } else {
-            None
-        }
+        self.memory.get(address).copied()
     }
 
     // How many readings of the tape were taken.
@@ -54,11 +45,7 @@ impl State {
     pub fn record(&self, index: usize) -> Option<Record>
         ensures { result ≡ record_in self.now index }
     {
-        if index < self.logged && index < LOG {
-            Some(self.log[index])
-        } else {
-            None
-        }
+        self.log[..self.logged.min(LOG)].get(index).copied()
     }
 
     // How the run ended, or none while it goes on.
@@ -71,6 +58,6 @@ impl State {
     pub fn ended(&self) -> bool
         ensures { result ≡ ended self.now }
     {
-        matches!(self.ending, Some(_))
+        self.ending.is_some()
     }
 }

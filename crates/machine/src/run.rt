@@ -12,16 +12,18 @@ pub struct Run {
 }
 
 // Runs an image over a tape for at most so many steps, stopping at the ending.
+#[tactic(auto, using(crate::proofs::Runs::goes_on, crate::proofs::Runs::stays, crate::proofs::Runs::meant, crate::proofs::Processes::deterministic))]
 pub fn run_for(image: &[u8], tape: &[u32], most: u64) -> Run
     ensures value { result ≡ run_of image.now tape.now most }
     ensures reached { Reached image.now tape.now most result }
     ensures deterministic { Deterministic (mains image.now tape.now) }
 {
     let mut state = State::new();
-    let mut steps = 0;
-    while steps < most && !state.ended() {
+    for steps in 0..most {
+        if state.ended() {
+            return Run { state, steps };
+        }
         state.step(image, tape);
-        steps += 1;
     }
-    Run { state, steps }
+    Run { state, steps: most }
 }

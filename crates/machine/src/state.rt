@@ -14,13 +14,13 @@ pub const LOG: usize = 64;
 // A reading that the round has put into its log. Callers in C lend lists of
 // these, so its layout is C's.
 #[repr(C)]
-#[derive(Clone, Copy)]
+#[derive(Clone, Copy, Debug, PartialEq, Eq)]
 pub struct Record {
     pub sensor: u8,
     pub value: u64,
 }
 
-#[derive(Clone, Copy)]
+#[derive(Clone, Copy, PartialEq, Eq)]
 pub struct State {
     // a jump can lead below 0 or past the image
     pub(crate) slot: i32,
@@ -28,6 +28,7 @@ pub struct State {
     pub(crate) memory: [u8; MEMORY],
     // how many readings of the tape were taken
     pub(crate) place: usize,
+    // Stays: the device has room for so many, and a state is copied, which an `ArrayVec` is not.
     pub(crate) log: [Record; LOG],
     pub(crate) logged: usize,
     pub(crate) ending: Option<Ending>,
@@ -55,6 +56,7 @@ impl State {
     }
 
     // A register that there is.
+    // Stays: a type of such numbers would be made of a slot's byte and taken apart at every use.
     pub(crate) fn read(&self, number: u8) -> u64
         requires { number ≤ 10 }
         ensures { result ≡ register_of self.now number }
@@ -72,13 +74,13 @@ impl State {
     pub(crate) fn go_on(&mut self, instruction: Instruction)
         ensures { self.new ≡ moved_to self.old (next_of instruction) }
     {
-        self.slot = instruction.at as i32 + 1;
+        self.slot = instruction.next();
     }
 
     pub(crate) fn jump(&mut self, instruction: Instruction)
         ensures { self.new ≡ moved_to self.old (target_of instruction) }
     {
-        self.slot = instruction.at as i32 + 1 + instruction.fields.offset as i32;
+        self.slot = instruction.target();
     }
 
     pub(crate) fn end(&mut self, ending: Ending)

@@ -13,10 +13,11 @@ use machine::ending::Ending;
 use machine::run::{Run, run_for};
 use machine::state::State;
 use std::alloc::{AllocError, Global};
-use std::io;
+use std::{fmt, io};
 
 const MOST_STEPS: u64 = 2000;
 
+// Stays: `char::to_digit` also takes A to F, which are 0 here; with a test for those beside it, it is no plainer.
 fn digit(c: u8) -> u8
     ensures { result < 16 }
 {
@@ -29,36 +30,32 @@ fn digit(c: u8) -> u8
 
 // The bytes that pairs of digits say; `-` is none.
 fn image_of(heap: Global, text: &str) -> Result<Vec<u8>, AllocError> {
-    let mut image = Vec::new(heap);
-    for pair in text.as_bytes().chunks(2) {
-        if let [high, low] = pair {
-            image.push(16 * digit(*high) + digit(*low))?;
-        }
-    }
-    Ok(image)
+    let (pairs, _) = text.as_bytes().as_chunks::<2>();
+    pairs
+        .iter()
+        .map(|[high, low]| 16 * digit(*high) + digit(*low))
+        .collect(heap)
 }
 
 // The readings between commas; `-` is none.
 fn tape_of(heap: Global, text: &str) -> Result<Vec<u32>, AllocError> {
-    let mut tape = Vec::new(heap);
-    for reading in text.split(',') {
-        if let Ok(reading) = reading.parse::<u32>() {
-            tape.push(reading)?;
-        }
-    }
-    Ok(tape)
+    text.split(',')
+        .filter_map(|reading| reading.parse::<u32>().ok())
+        .collect(heap)
 }
 
-fn ending_text(ending: Option<Ending>) -> &'static str {
-    match ending {
-        None => " none ",
-        Some(Ending::Exit) => " exit ",
-        Some(Ending::Trap(trap)) => match trap.number() {
-            1 => " trap1 ",
-            2 => " trap2 ",
-            3 => " trap3 ",
-            _ => " trap4 ",
-        },
+// How a run ended, if it did.
+// Stays: the program's text of it has a blank before a trap's number, and a word of these lines has none.
+#[derive(Clone, Copy)]
+struct Ended(Option<Ending>);
+
+impl fmt::Display for Ended {
+    fn fmt<W: fmt::Write>(&self, f: &mut fmt::Formatter<W>) -> fmt::Result {
+        match self.0 {
+            None => write!(f, "none"),
+            Some(Ending::Exit) => write!(f, "exit"),
+            Some(Ending::Trap(trap)) => write!(f, "trap{}", trap.number()),
+        }
     }
 }
 
@@ -68,20 +65,16 @@ fn put(rt: &HostRuntime, mark: char, number: u64) -> io::Result<()> {
 }
 
 fn put_registers(rt: &HostRuntime, state: &State) -> io::Result<()> {
-    for number in 0..11 {
-        if let Some(value) = state.register(number) {
-            put(rt, ' ', value)?;
-        }
+    for value in (0..11).filter_map(|number| state.register(number)) {
+        put(rt, ' ', value)?;
     }
     Ok(())
 }
 
 fn put_log(rt: &HostRuntime, state: &State) -> io::Result<()> {
-    for index in 0..state.logged() {
-        if let Some(record) = state.record(index) {
-            put(rt, ';', record.sensor as u64)?;
-            put(rt, ':', record.value)?;
-        }
+    for record in (0..state.logged()).filter_map(|index| state.record(index)) {
+        put(rt, ';', record.sensor as u64)?;
+        put(rt, ':', record.value)?;
     }
     Ok(())
 }
@@ -89,19 +82,16 @@ fn put_log(rt: &HostRuntime, state: &State) -> io::Result<()> {
 // The bytes of memory that are not 0, with their addresses.
 fn put_memory(rt: &HostRuntime, state: &State) -> io::Result<()> {
     for address in 0..512 {
-        if let Some(byte) = state.byte(address) {
-            if byte != 0 {
-                put(rt, ',', address as u64)?;
-                put(rt, ':', byte as u64)?;
-            }
+        if let Some(byte) = state.byte(address).filter(|byte| *byte != 0) {
+            put(rt, ',', address as u64)?;
+            put(rt, ':', byte as u64)?;
         }
     }
     Ok(())
 }
 
 fn put_run(rt: &HostRuntime, run: &Run) -> io::Result<()> {
-    rt.print(ending_text(run.state.ending()))?;
-    rt.print(run.state.slot())?;
+    print!(rt; " {} {}", Ended(run.state.ending()), run.state.slot())?;
     put(rt, ' ', run.steps)?;
     put(rt, ' ', run.state.place() as u64)?;
     put_registers(rt, &run.state)?;
@@ -125,9 +115,9 @@ fn run_line(rt: &HostRuntime, line: &str) -> io::Result<()> {
 
 fn main(rt: HostRuntime) -> io::Result<()> {
     let mut count = 0u64;
-    for line in rt.lines(rt.alloc()) {
+    for (line, number) in rt.lines(rt.alloc()).zip(1..) {
         run_line(&rt, line?.as_str())?;
-        count = count.wrapping_add(1);
+        count = number;
     }
     println!(rt; "{count} vectors")
 }

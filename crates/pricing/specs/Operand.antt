@@ -5,7 +5,7 @@
 --     added_most k imm        the most that it adds
 --     saving p                what a saving with p pending records spends
 --     operand                 the model
-use Rattle.std.specs.Prelude.{ℕ, ◌+◌, ◌*◌, ◌%◌, min, cond, ◌||◌, ℤ, Some, None, Option, ◌==◌}
+use Rattle.std.specs.Prelude.{ℕ, ◌+◌, ◌*◌, ◌%◌, min, if◌then◌else◌, ◌||◌, ℤ, Some, None, Option, ◌==◌}
 use Rattle.isa.specs.declared.kind.Operation.{Operation}
 use Rattle.isa.specs.declared.kind.Operation.TheVariants as operation
 use Rattle.isa.specs.declared.kind.Kind.{Kind}
@@ -18,7 +18,7 @@ use Rattle.pricing.specs.Store.{storing, storing_most}
 
 -- LDX is class 1, ST 2, STX 3, ALU64 7
 abbrev pub class_price : ℕ → ℕ
-class_price c = cond (c == 1) 3 (cond (c == 2 || c == 3) 4 (cond (c == 7) 2 1))
+class_price c = if c == 1 then 3 else if c == 2 || c == 3 then 4 else if c == 7 then 2 else 1
 
 abbrev pub dividing : Operation → ℕ
 dividing operation.Div = 6

@@ -6,6 +6,7 @@ ghost use Rattle.std.proofs.Common.{rules};
 use crate::model::PriceModel;
 
 // Prices by opcode, and the last for a saving.
+// Stays: there are 256 opcodes and one saving, and a library has no heap.
 #[derive(Clone, Copy)]
 pub struct FlatModel {
     prices: [u16; 257],
@@ -25,13 +26,7 @@ impl FlatModel {
 impl PriceModel for FlatModel {
     ghost means = { λ m. flat m.prices };
 
-    ghost spending_within = { Prim.search rules };
-
-    ghost saving_within = { Prim.search rules };
-
-    ghost most_small = { Prim.search rules };
-
-    ghost dearest_small = { Prim.search rules };
+    ghost bounded = { Prim.search rules };
 
     fn most(&self, opcode: u8, _imm: i32) -> u32 {
         self.prices[opcode as usize] as u32

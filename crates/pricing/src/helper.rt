@@ -1,6 +1,6 @@
 // What a helper adds to the price of its CALL.
 ghost use Rattle.std.specs.Prelude.{◌≡◌};
-ghost use Rattle.pricing.specs.Helper.{calling, calling_most};
+ghost use Rattle.pricing.specs.Helper.{calling};
 
 use isa::helper::Helper;
 
@@ -10,16 +10,6 @@ pub(crate) fn calling(helper: Option<Helper>, a: u64) -> u32
 {
     match helper {
         Some(Helper::NextReading) => 60 + 10 * (a % 4) as u32,
-        Some(Helper::Record) => 12,
-        Some(Helper::Save) | None => 0,
-    }
-}
-
-pub(crate) fn calling_most(helper: Option<Helper>) -> u32
-    ensures { result ≡ calling_most helper }
-{
-    match helper {
-        Some(Helper::NextReading) => 90,
         Some(Helper::Record) => 12,
         Some(Helper::Save) | None => 0,
     }

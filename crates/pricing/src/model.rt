@@ -1,8 +1,9 @@
 // A price model.
 ghost use Rattle.std.specs.Prelude.{◌≡◌};
-ghost use Rattle.pricing.specs.Model.{Model, SpendingWithin, SavingWithin, MostSmall, DearestSmall};
+ghost use Rattle.pricing.specs.Model.{Model, Bounded};
 
 // Its calls answer the four functions that it means, and change nothing.
+// Stays: a struct of opcode, imm and operands would be made where a model is asked and taken apart in each model.
 pub trait PriceModel {
     ghost means: { Self → Model };
 
@@ -22,11 +23,5 @@ pub trait PriceModel {
     fn saving(&self, pending: usize) -> u32
         ensures { result ≡ (means self.now).saving pending };
 
-    ghost spending_within: { (m : Self) → SpendingWithin (means m) };
-
-    ghost saving_within: { (m : Self) → SavingWithin (means m) };
-
-    ghost most_small: { (m : Self) → MostSmall (means m) };
-
-    ghost dearest_small: { (m : Self) → DearestSmall (means m) };
+    ghost bounded: { (m : Self) → Bounded (means m) };
 }

@@ -2,12 +2,12 @@
 // operands add to it.
 ghost use Rattle.std.specs.Prelude.{◌≡◌, ◌%◌};
 ghost use Rattle.isa.specs.Opcode.{kind_of};
-ghost use Rattle.pricing.specs.Operand.{class_price, dividing, added, added_most, operand};
+ghost use Rattle.pricing.specs.Operand.{class_price, dividing, added, operand};
 ghost use Rattle.std.proofs.Common.{rules};
 
-use crate::helper::{calling, calling_most};
+use crate::helper::calling;
 use crate::model::PriceModel;
-use crate::store::{storing, storing_most};
+use crate::store::storing;
 use isa::helper::helper_of;
 use isa::kind::{Kind, Operation};
 use isa::opcode::kind_of;
@@ -16,6 +16,7 @@ use isa::opcode::kind_of;
 pub struct OperandModel;
 
 // The classes with a price of their own.
+// Stays: a class is three bits of any opcode, legal or not, and an enum of it would only be matched again.
 const LDX: u8 = 1;
 
 const ST: u8 = 2;
@@ -56,30 +57,14 @@ fn added(opcode: u8, imm: i32, a: u64, b: u64) -> u32
     }
 }
 
-fn added_most(opcode: u8, imm: i32) -> u32
-    ensures { result ≡ added_most (kind_of opcode) imm }
-{
-    match kind_of(opcode) {
-        Some(Kind::Arithmetic(_, operation, _)) => dividing(operation),
-        Some(Kind::Call) => calling_most(helper_of(imm)),
-        Some(Kind::StoreImm(size) | Kind::StoreReg(size)) => storing_most(size),
-        _ => 0,
-    }
-}
-
 impl PriceModel for OperandModel {
     ghost means = { λ _. operand };
 
-    ghost spending_within = { Prim.search rules };
+    ghost bounded = { Prim.search rules };
 
-    ghost saving_within = { Prim.search rules };
-
-    ghost most_small = { Prim.search rules };
-
-    ghost dearest_small = { Prim.search rules };
-
+    // No operands add more than those that are all ones.
     fn most(&self, opcode: u8, imm: i32) -> u32 {
-        class_price(opcode) + added_most(opcode, imm)
+        self.spending(opcode, imm, u64::MAX, u64::MAX)
     }
 
     fn spending(&self, opcode: u8, imm: i32, a: u64, b: u64) -> u32 {
@@ -87,7 +72,7 @@ impl PriceModel for OperandModel {
     }
 
     fn dearest(&self) -> u32 {
-        148
+        self.saving(usize::MAX)
     }
 
     fn saving(&self, pending: usize) -> u32 {

@@ -6,22 +6,18 @@ use crate::flat::FlatModel;
 use crate::model::PriceModel;
 use crate::operand::OperandModel;
 
+// Stays: a None would not say that the operand model is meant.
 #[derive(Clone, Copy)]
 pub enum Prices {
     Operand,
     Flat(FlatModel),
 }
 
+// Stays: a method that picks the model once would hand out a `dyn`, which the gate refuses.
 impl PriceModel for Prices {
     ghost means = { model_of };
 
-    ghost spending_within = { Prim.search rules };
-
-    ghost saving_within = { Prim.search rules };
-
-    ghost most_small = { Prim.search rules };
-
-    ghost dearest_small = { Prim.search rules };
+    ghost bounded = { Prim.search rules };
 
     fn most(&self, opcode: u8, imm: i32) -> u32 {
         match self {

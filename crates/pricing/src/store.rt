@@ -1,18 +1,12 @@
 // What a store adds to its price: a unit for each one among the bits it writes.
 ghost use Rattle.std.specs.Prelude.{◌≡◌};
-ghost use Rattle.pricing.specs.Store.{storing, storing_most};
+ghost use Rattle.pricing.specs.Store.{storing};
 
 use isa::kind::Size;
-use isa::size::{bytes_in, cut_to};
+use isa::size::cut_to;
 
 pub(crate) fn storing(size: Size, b: u64) -> u32
     ensures { result ≡ storing size b }
 {
     cut_to(size, b).count_ones()
-}
-
-pub(crate) fn storing_most(size: Size) -> u32
-    ensures { result ≡ storing_most size }
-{
-    8 * bytes_in(size) as u32
 }

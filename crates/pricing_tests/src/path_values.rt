@@ -5,8 +5,6 @@ use paths::node::{Node, Successors};
 use paths::price::Price;
 use paths::worth::Worth;
 
-const EMPTY: Worth = Worth { price: 0, slot: 0 };
-
 fn node(slot: u16, price: u64, successors: Successors) -> Node {
     Node {
         slot,
@@ -27,7 +25,7 @@ fn diamond(left: u64, right: u64) -> [Node; 4] {
 
 #[test]
 fn greater_price(rt: HostRuntime) {
-    let mut worths = [EMPTY; 4];
+    let mut worths = [Worth::default(); 4];
     fill(&mut worths, &[3, 2, 1, 0], &diamond(10, 20));
     assert_eq!(rt; worths[0].price, 26);
     assert_eq!(rt; worths[1].price, 15);
@@ -45,7 +43,7 @@ fn smaller_slot_of_equal_prices(rt: HostRuntime) {
 
 #[test]
 fn sums_stop(rt: HostRuntime) {
-    let mut prices = [Price { price: 0 }; 4];
+    let mut prices = [Price::default(); 4];
     fill(&mut prices, &[3, 2, 1, 0], &diamond(u64::MAX, 20));
     assert_eq!(rt; prices[1].price, u64::MAX);
     assert_eq!(rt; prices[0].price, u64::MAX);
@@ -53,7 +51,7 @@ fn sums_stop(rt: HostRuntime) {
 
 #[test]
 fn past_the_end(rt: HostRuntime) {
-    let mut worths = [EMPTY; 2];
+    let mut worths = [Worth::default(); 2];
     fill(&mut worths, &[9, 0], &[node(0, 3, Successors::One(9))]);
     assert_eq!(rt; worths[0].price, 3);
     assert_eq!(rt; worths[1].price, 0);

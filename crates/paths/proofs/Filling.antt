@@ -1,5 +1,5 @@
 -- The list filled along an order holds the worths of the order's nodes.
-use Rattle.std.proofs.Common.{◌≡◌, ℕ, zero, suc, ◌+◌, ◌<◌, ◌⊎◌, List, [], ◌∷◌, length, get_or, drop, set, sym, refl, ap, ◌∙◌, inl, inr, ⊎_elim, add-one, arith, length-set, drop-cons, get_or-set_other, get_or-set_same}
+use Rattle.std.proofs.Common.{◌≡◌, ℕ, suc, ◌+◌, ◌<◌, ◌⊎◌, List, [], ◌∷◌, length, get_or, drop, set, sym, refl, ap, ◌∙◌, inl, inr, ⊎_elim, add-one, arith, length-set, drop-cons, get_or-set_other, get_or-set_same}
 use mathlib.Core.Path.{subst⁻¹}
 use Rattle.std.proofs.lemmas.Bool.{cases_eq}
 use Rattle.paths.specs.Kind.{PathKind, Laws}
@@ -30,9 +30,7 @@ module _ {V : Type 0} (k : PathKind V) (g : Net) where
 
 -- a node among those done or among the first of an order, after the order's first node is done
 moves : (m t p : ℕ) (done order : List ℕ) → In t done ⊎ Listed (m ∷ order) (suc p) t → In t (m ∷ done) ⊎ Listed order p t
-moves m t p done order (inl i) = inl (inr i)
-moves m t p done order (inr (zero, h, e)) = inl (inl (sym e))
-moves m t p done order (inr (suc q, h, e)) = inr (q, omega arith, e)
+moves m t p done order e = grind arith
 
 module _ {V : Type 0} (k : PathKind V) (L : Laws k) (g : Net) where
   abbrev at : List V → ℕ → V

@@ -6,6 +6,8 @@
 --     Complete g n l        l is a complete list from n: each later node a successor of the one before, the last with none
 --     Listed order p n      n is among the first p nodes of an order
 --     Ordered g order       each node of an order stands after all its successors
+--     no_node               the node past the end of a table: no way out, at no price
+--     node_at nodes n       node n of a table
 --     tabled nodes          the net that a table says, node by node
 --     Described nodes g n   at node n, a net is as a table says
 use Rattle.std.specs.Prelude.{◌≡◌, ℕ, ◌<◌, ◌⊎◌, List, [], ◌∷◌, length, slice_index, slice_index_or}
@@ -37,9 +39,11 @@ ways_of End = []
 ways_of (One a) = a ∷ []
 ways_of (Both a b) = a ∷ b ∷ []
 
--- past the end of a table walks end, and cost nothing
+abbrev pub no_node : Node
+no_node = record { slot = 0; price = 0; successors = End }
+
 abbrev pub node_at : List Node → ℕ → Node
-node_at nodes n = slice_index_or nodes n (record { slot = 0; price = 0; successors = End })
+node_at nodes n = slice_index_or nodes n no_node
 
 abbrev pub tabled : List Node → Net
 tabled nodes =

@@ -1,7 +1,8 @@
--- The kind of path value that is a price. Assumes nothing.
+-- Prices of path values, and the kind of path value that is a price. Assumes nothing.
 --     added x p              a sum of prices, which stops at 2^64 - 1
 --     price_kind             the kind: joined by the greater
-use Rattle.std.specs.Prelude.{ℕ, ◌+◌, ◌-◌, ◌^◌, min, max}
+--     Saturates k price      the values of a kind have prices: joined by the greater, and summed, but stopping at 2^64 - 1
+use Rattle.std.specs.Prelude.{◌≡◌, ℕ, ◌+◌, ◌-◌, ◌^◌, min, max}
 use Rattle.paths.specs.declared.price.Price.{Price}
 use Rattle.paths.specs.Kind.{PathKind}
 
@@ -18,3 +19,8 @@ price_kind =
       join = λ x y. priced (max x.price y.price);
       extend = λ x s p. priced (added x.price p);
     }
+
+pub record Saturates {V : Type 0} (k : PathKind V) (price : V → ℕ) : Type 0 where
+  pub at_empty : price k.empty ≡ 0
+  pub at_join : (x y : V) → price (k.join x y) ≡ max (price x) (price y)
+  pub at_extend : (x : V) (s p : ℕ) → price (k.extend x s p) ≡ added (price x) p

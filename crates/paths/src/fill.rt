@@ -10,23 +10,13 @@ use crate::node::{Node, Successors};
 fn node_at(nodes: &[Node], at: u16) -> Node
     ensures { result ≡ node_at nodes.now at }
 {
-    match nodes.get(at as usize) {
-        Some(node) => *node,
-        None => Node {
-            slot: 0,
-            price: 0,
-            successors: Successors::End,
-        },
-    }
+    nodes.get(at as usize).copied().unwrap_or_default()
 }
 
 fn value_at<V: PathValue>(worths: &[V], at: u16) -> V
     ensures { result ≡ slice_index_or worths.now at V.PathValue.kind.empty }
 {
-    match worths.get(at as usize) {
-        Some(value) => *value,
-        None => V::empty(),
-    }
+    worths.get(at as usize).copied().unwrap_or(V::empty())
 }
 
 fn joined<V: PathValue>(worths: &[V], successors: Successors) -> V
@@ -43,6 +33,7 @@ fn put<V: PathValue>(worths: &mut [V], at: u16, value: V)
     ensures { worths.new ≡ slice_set worths.old at value }
 {
     let at = at as usize;
+    // Stays: tried `get_mut`; of a slice, a proof knows only the length after it.
     if at < worths.len() {
         worths[at] = value;
     }
@@ -64,7 +55,7 @@ pub fn fill<V: PathValue>(worths: &mut [V], order: &[u16], nodes: &[Node])
     ensures untouched { Untouched order.now worths.old worths.new V.PathValue.kind.empty }
     ensures worths { (g : Net) → OrderOf nodes.now g order.now (length worths.old) → Worths V.PathValue.kind g order.now worths.new }
 {
-    for at in order {
-        fill_node(worths, nodes, *at);
+    for &at in order {
+        fill_node(worths, nodes, at);
     }
 }

@@ -1,6 +1,6 @@
 // A kind of path value.
 ghost use Rattle.std.specs.Prelude.{◌≡◌};
-ghost use Rattle.paths.specs.Kind.{PathKind, Associative, Commutative, Idempotent, Spreads};
+ghost use Rattle.paths.specs.Kind.{PathKind, Laws};
 
 pub trait PathValue: Copy {
     ghost kind: { PathKind Self };
@@ -14,11 +14,5 @@ pub trait PathValue: Copy {
     fn extend(self, slot: u16, price: u64) -> Self
         ensures { result ≡ kind.extend self slot price };
 
-    ghost associative: { Associative kind };
-
-    ghost commutative: { Commutative kind };
-
-    ghost idempotent: { Idempotent kind };
-
-    ghost spreads: { Spreads kind };
+    ghost laws: { Laws kind };
 }

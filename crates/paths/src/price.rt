@@ -4,7 +4,7 @@ ghost use Rattle.std.proofs.Common.{rules};
 
 use crate::kind::PathValue;
 
-#[derive(Clone, Copy)]
+#[derive(Clone, Copy, Default, PartialEq, Eq, PartialOrd, Ord)]
 pub struct Price {
     pub price: u64,
 }
@@ -12,22 +12,14 @@ pub struct Price {
 impl PathValue for Price {
     ghost kind = { price_kind };
 
-    ghost associative = { Prim.search rules };
-
-    ghost commutative = { Prim.search rules };
-
-    ghost idempotent = { Prim.search rules };
-
-    ghost spreads = { Prim.search rules };
+    ghost laws = { Prim.search rules };
 
     fn empty() -> Price {
-        Price { price: 0 }
+        Price::default()
     }
 
     fn join(self, other: Price) -> Price {
-        Price {
-            price: self.price.max(other.price),
-        }
+        self.max(other)
     }
 
     fn extend(self, _slot: u16, price: u64) -> Price {

@@ -4,10 +4,11 @@ ghost use Rattle.paths.specs.Worth.{worth_kind};
 ghost use Rattle.std.proofs.Common.{rules};
 
 use crate::kind::PathValue;
+use std::cmp::{self, Reverse};
 
 // Callers in C lend lists of these, so its layout is C's.
 #[repr(C)]
-#[derive(Clone, Copy)]
+#[derive(Clone, Copy, Default)]
 pub struct Worth {
     pub price: u64,
     pub slot: u16,
@@ -16,24 +17,14 @@ pub struct Worth {
 impl PathValue for Worth {
     ghost kind = { worth_kind };
 
-    ghost associative = { Prim.search rules };
-
-    ghost commutative = { Prim.search rules };
-
-    ghost idempotent = { Prim.search rules };
-
-    ghost spreads = { Prim.search rules };
+    ghost laws = { Prim.search rules };
 
     fn empty() -> Worth {
-        Worth { price: 0, slot: 0 }
+        Worth::default()
     }
 
     fn join(self, other: Worth) -> Worth {
-        if other.price < self.price || self.price == other.price && self.slot <= other.slot {
-            self
-        } else {
-            other
-        }
+        cmp::max_by_key(other, self, |worth| (worth.price, Reverse(worth.slot)))
     }
 
     fn extend(self, slot: u16, price: u64) -> Worth {

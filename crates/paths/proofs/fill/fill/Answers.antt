@@ -1,5 +1,4 @@
 use Rattle.std.proofs.Common.{◌≡◌, List, [], drop, sym, subst, drop_of_length-le}
-use Rattle.paths.specs.Kind.{Laws}
 use Rattle.paths.specs.Net.{tabled}
 use Rattle.paths.specs.Fill.{filled, Untouched, Worths}
 use Rattle.paths.proofs.Filling.{filled_more, untouched, worths}
@@ -13,12 +12,9 @@ loop-at-preserved g c =
 pub returns : goal.returns
 returns g c =
     let k = g.V.PathValue.kind in
-    let m = g.met.V.PathValue in
     let net = tabled c.args.nodes.now in
     let order = c.args.order.now in
     let xs = c.args.worths.now in
-    let laws : Laws k =
-    record { associative = m.associative; commutative = m.commutative; idempotent = m.idempotent; spreads = m.spreads } in
     let rest : drop c.loop-at.at-index order ≡ [] = drop_of_length-le order c.loop-at-test.false in
     let e : c.loop-at.worths ≡ filled k net order xs = rw rest at c.loop-at.invariant in
     let U : List g.row.V.Denot → Type 0 = λ ys. Untouched order xs ys k.empty in
@@ -27,5 +23,5 @@ returns g c =
       untouched = subst U (sym e) (untouched k net order xs k.empty);
       worths = λ h o.
           let W : List g.row.V.Denot → Type 0 = λ ys. Worths k h order ys in
-          subst W (sym e) (worths k laws h c.args.nodes.now order xs o);
+          subst W (sym e) (worths k g.met.V.PathValue.laws h c.args.nodes.now order xs o);
     }

@@ -1,5 +1,5 @@
 -- The computed answer says what is so, and no other answer does.
-use Rattle.std.proofs.Common.{◌≡◌, ℕ, ◌<◌, ◌≤◌, Bool, true, false, cond, ltb, List, [], ◌∷◌, ◌++◌, Some, None, Option, refl, ap, subst, arith}
+use Rattle.std.proofs.Common.{◌≡◌, ℕ, ◌<◌, ◌≤◌, Bool, true, cond, ltb, List, [], ◌∷◌, ◌++◌, Some, None, Option, refl, ap, subst, arith}
 use mathlib.Core.Path.{subst⁻¹}
 use Rattle.std.proofs.lemmas.Bool.{and_parts, and_from, ltb-true, lt-ltb}
 use Rattle.isa.proofs.First.{none_each, first_of}
@@ -11,17 +11,14 @@ use Rattle.walks.specs.Acceptance.{Lowest, Looped, Unlooped, OverBudget, Dearest
 use Rattle.walks.specs.Certified.{lowest_below, sum_kind, looped, started, dearest, overspends, charged, answered, certified, CertifiedRight, WalksComplete}
 use Rattle.walks.proofs.Walking.{reach_below, start_reached, reach_on, chain_on, ends_on, chain_last, looped_yes, looped_is, looped_reached, started_yes, started_is}
 use Rattle.walks.proofs.Worths.{worth_joined, joined_dearest}
-use Rattle.walks.proofs.Clash.{clash}
 
 -- what the search for the lowest number finds
 module _ (f : ℕ → Bool) where
   picked : (b : Bool) (a r : ℕ) → cond b (Some a) None ≡ Some r → (b ≡ true) × (a ≡ r)
-  picked true a r e = (refl, cc)
-  picked false a r e = clash (cc)
+  picked b a r e = grind arith
 
   passed_over : (b : Bool) (a : ℕ) → cond b (Some a) None ≡ None → b ≡ true → ⊥
-  passed_over true a e t = clash (cc)
-  passed_over false a e t = clash (cc)
+  passed_over b a e t = grind arith
 
   pub lowest_none : (n : ℕ) → lowest_below f n ≡ None → (m : ℕ) → m < n → f m ≡ true → ⊥
   lowest_none n e m h = passed_over (f m) m (none_each (λ i. cond (f i) (Some i) None) n e m h)
@@ -113,20 +110,10 @@ module _ (g : Graph) where
     certified_means budget = answered_means budget (lowest_below (looped g) g.size) refl
 
 lowest_one : (P : ℕ → Type 0) (m n : ℕ) → Lowest P m → Lowest P n → m ≡ n
-lowest_one P m n a b =
-    let x : (m < n) → ⊥ = λ h. b.least m h a.has in
-    let y : (n < m) → ⊥ = λ h. a.least n h b.has in
-    omega arith
+lowest_one P m n a b = grind arith
 
 dearest_one : (g : Graph) (n p q : ℕ) → Dearest g n p → Dearest g n q → p ≡ q
-dearest_one g n p q a b =
-    let x = a.met in
-    let y = b.met in
-    let i = a.most y.0 y.1 in
-    let j = b.most x.0 x.1 in
-    let k = x.2 in
-    let l = y.2 in
-    omega arith
+dearest_one g n p q a b = grind arith
 
 -- at most one answer says what is so
 pub means_one : (g : Graph) (budget : ℕ) (a b : Answer) → Means g budget a → Means g budget b → a ≡ b

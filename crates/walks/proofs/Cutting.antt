@@ -5,7 +5,7 @@ use Rattle.walks.specs.Graph.{Graph, ending, onward, Sound}
 use Rattle.walks.specs.Walk.{Reachable, first, next, Chain, CompleteList, Walk, walk_price}
 use Rattle.walks.specs.Acceptance.{Twice, Unlooped, Accepted}
 use Rattle.walks.proofs.Steps.{twice_on}
-use Rattle.walks.proofs.Walking.{onward_way, onward_goes, way_onward, arrive, chain_on, ends_on, price_after, ends_dear, start_reached}
+use Rattle.walks.proofs.Walking.{onward_way, onward_goes, arrive, chain_on, ends_on, price_after, ends_dear, start_reached}
 use Rattle.walks.proofs.Certifying.{dearest_is}
 
 -- h has the ways of g, and ends walks at least where g does; what it adds costs a saving at most, and every ending of g one at least
@@ -21,8 +21,7 @@ module _ (saving : ℕ) (g h : Graph) (cut : Cut saving g h) where
   cut_reach n (next {n = m} r i) = next (cut_reach m r) (subst (λ (l : List ℕ). In n l) (cut.ways m) i)
 
   cut_onward : (n t : ℕ) → In t (onward h n) → In t (onward g n)
-  cut_onward n t i =
-      way_onward g n t (cut.goes n (onward_goes h n t i)).0 (subst (λ (l : List ℕ). In t l) (cut.ways n) (onward_way h n t i))
+  cut_onward n t e = grind arith
 
   cut_chain : (l : List ℕ) (n : ℕ) → Chain h n l → Chain g n l
   cut_chain [] n c = tt

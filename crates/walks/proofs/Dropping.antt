@@ -1,22 +1,11 @@
 -- The upward pass over a set of nodes, for any test that passes of more where it passes of less: none that it leaves can be dropped.
-use Rattle.std.proofs.Common.{◌≡◌, ℕ, zero, suc, ◌+◌, ◌<◌, ◌≤◌, Bool, true, false, cond, not, ◌&&◌, eqb, ◌↔◌, refl, subst, ⊎_elim, arith}
+use Rattle.std.proofs.Common.{◌≡◌, ℕ, zero, suc, ◌+◌, ◌<◌, ◌≤◌, Bool, true, cond, not, ◌&&◌, eqb, ◌↔◌, subst, ⊎_elim, arith}
 use mathlib.Core.Path.{subst⁻¹}
-use Rattle.std.proofs.lemmas.Bool.{and_parts, and_from, cases_lt, lt-ltb, le-ltb, eq-eqb, ne_eqb, not_from_true, not_from_false, cond-true, cond-false}
+use Rattle.std.proofs.lemmas.Bool.{and_parts, and_from, cases_lt, lt-ltb, le-ltb, cond-true, cond-false}
 use Rattle.walks.specs.Placing.{Within, without, dropped, tried}
-use Rattle.walks.proofs.Clash.{clash}
 
 kept_without : (n m : ℕ) (P : ℕ → Bool) → (m ≡ n → ⊥) → P m ≡ true → without n P m ≡ true
-kept_without n m P ne t = and_from (not (eqb m n)) (P m) (not_from_false (eqb m n) (ne_eqb m n ne)) t
-
-without_within : (n : ℕ) (P : ℕ → Bool) → Within (without n P) P
-without_within n P m t = (and_parts (not (eqb m n)) (P m) t).1
-
-without_more : (n : ℕ) (P Q : ℕ → Bool) → Within P Q → Within (without n P) (without n Q)
-without_more n P Q w m t = let p = and_parts (not (eqb m n)) (P m) t in and_from (not (eqb m n)) (Q m) p.0 (w m p.1)
-
-without_not : (n : ℕ) (P : ℕ → Bool) → without n P n ≡ true → ⊥
-without_not n P t =
-    let p = (and_parts (not (eqb n n)) (P n) t).0 in let q = not_from_true (eqb n n) (eq-eqb n n refl) in clash (cc)
+kept_without n m P ne t = grind arith
 
 -- a set or the same without n, by a test
 module _ (n : ℕ) (P : ℕ → Bool) where
@@ -24,12 +13,10 @@ module _ (n : ℕ) (P : ℕ → Bool) where
   next b = cond b (without n P) P
 
   next_within : (b : Bool) → Within (next b) P
-  next_within true m t = without_within n P m t
-  next_within false m t = t
+  next_within b = grind arith
 
   next_keeps : (b : Bool) (m : ℕ) → (m ≡ n → ⊥) → P m ≡ true → next b m ≡ true
-  next_keeps true m ne t = kept_without n m P ne t
-  next_keeps false m ne t = t
+  next_keeps b m e t = grind arith
 
 module _ (ok : (ℕ → Bool) → Bool) where
   -- whether n is dropped from P
@@ -41,8 +28,7 @@ module _ (ok : (ℕ → Bool) → Bool) where
   dropped_within (suc k) n P m t = next_within n P (drops n P) m (dropped_within k (suc n) (next n P (drops n P)) m t)
 
   passes : (n : ℕ) (P : ℕ → Bool) (b : Bool) → (b ≡ true → ok (without n P) ≡ true) → ok P ≡ true → ok (next n P b) ≡ true
-  passes n P true f t = f refl
-  passes n P false f t = t
+  passes n P b e t = grind arith
 
   pub dropped_ok : (k n : ℕ) (P : ℕ → Bool) → ok P ≡ true → ok (dropped ok k n P) ≡ true
   dropped_ok zero n P t = t
@@ -58,8 +44,7 @@ module _ (ok : (ℕ → Bool) → Bool) where
   module _ (more : (P Q : ℕ → Bool) → Within P Q → ok P ≡ true → ok Q ≡ true) where
     tight_here : (n : ℕ) (P R : ℕ → Bool) (b : Bool) → (P n ≡ true → ok (without n P) ≡ true → b ≡ true) → Within R (next n P b)
         → R n ≡ true → ok (without n R) ≡ true → ⊥
-    tight_here n P R true f w r t = without_not n P (w n r)
-    tight_here n P R false f w r t = let e = f (w n r) (more (without n R) (without n P) (without_more n R P w) t) in clash (cc)
+    tight_here n P R b e t h p = grind arith
 
     pub dropped_tight : (k n : ℕ) (P : ℕ → Bool) (m : ℕ) → n ≤ m → m < n + k → dropped ok k n P m ≡ true
         → ok (without m (dropped ok k n P)) ≡ true → ⊥
@@ -105,14 +90,12 @@ module _ (ok : (ℕ → Bool) → Bool) where
           (cases_lt m n)
 
       same_next : (n : ℕ) (P : ℕ → Bool) (b : Bool) → SameFrom n P → SameFrom (suc n) (next n P b)
-      same_next n P b same m h =
-          (λ t. (same m (omega arith)).0 (next_within n P b m t), λ t. next_keeps n P b m (omega arith) ((same m (omega arith)).1 t))
+      same_next n P b e = grind arith
 
       -- a node is left exactly where the test fails when it is tried
       left_here : (n : ℕ) (P R : ℕ → Bool) (b : Bool) → (b ≡ true → ok (without n P) ≡ true) → (P n ≡ true → ok (without n P) ≡ true → b ≡ true)
           → P n ≡ true → (next n P b n ≡ true → R n ≡ true) → Within R (next n P b) → (R n ≡ true) ↔ (ok (without n P) ≡ true → ⊥)
-      left_here n P R true f g p up w = (λ r. absurd (without_not n P (w n r)), λ fails. absurd (fails (f refl)))
-      left_here n P R false f g p up w = (λ r t. let e = g p t in clash (cc), λ fails. up p)
+      left_here n P R b e t h p q = grind arith
 
       pub dropped_upward : (k n : ℕ) (P : ℕ → Bool) → SameFrom n P → (m : ℕ) → n ≤ m → m < n + k → I m ≡ true
           → (dropped ok k n P m ≡ true) ↔ (ok (tried I m (dropped ok k n P)) ≡ true → ⊥)

@@ -1,6 +1,5 @@
 pub mod Certifying
 pub mod Charging
-pub mod Clash
 pub mod Cutting
 pub mod Dropping
 pub mod Imaging

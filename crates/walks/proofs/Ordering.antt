@@ -14,9 +14,9 @@ use Rattle.walks.specs.Acceptance.{Unlooped}
 use Rattle.walks.specs.Worth.{worth_within}
 use Rattle.walks.specs.Order.{OrderFor, Leads, once, more, Filled, OrderRight, FilledRight, LoopRight}
 use Rattle.walks.proofs.Steps.{Steps, steps_on}
-use Rattle.walks.proofs.Walking.{Round, arrive, reached_yes, looped_reached, reached_looped, reach_on}
+use Rattle.walks.proofs.Walking.{Round, arrive, reached_yes, looped_reached, reached_looped}
 use Rattle.walks.proofs.Worths.{worth_joined}
-use Rattle.walks.proofs.TwoKinds.{price_laws, worth_laws}
+use Rattle.paths.proofs.KindLaws.{price_laws, worth_laws}
 
 module _ (g : Graph) (order : List ℕ) where
   earlier : (p q n : ℕ) → p ≤ q → Listed order p n → Listed order q n
@@ -70,9 +70,6 @@ module _ (g : Graph) where
   steps_lead : (l : List ℕ) (m h n : ℕ) → Leads g m h → Steps (onward g) h l n → Leads g m n
   steps_lead [] m h n d e = subst (Leads g m) e d
   steps_lead (t ∷ l) m h n d p = steps_lead l m t n (more d p.0) p.1
-
-  pub leads_reachable : (m n : ℕ) → Reachable g m → Leads g m n → Reachable g n
-  leads_reachable m n r d = let q = leads_steps m n d in reach_on g (q.0 ∷ q.2.0) m n r (q.1, q.2.1)
 
 pub loop_right : LoopRight
 loop_right g sound n = (

@@ -1,14 +1,12 @@
 -- The graph of an image with idle slots turned into saves is the turned graph.
 use Rattle.std.proofs.Common.{◌≡◌, ℕ, suc, ◌+◌, ◌/◌, ◌<◌, Bool, true, false, cond, ◌&&◌, List, ℤ, pos, Some, Option, sym, refl, ap, ◌∙◌, subst, inl, ⊎_elim, arith}
 use mathlib.Core.Path.{subst⁻¹}
-use Rattle.std.proofs.lemmas.Bool.{and_parts, cases_Bool, cond-true, cond-false}
+use Rattle.std.proofs.lemmas.Bool.{and_parts, cases_Bool, cond-true}
 use Rattle.isa.specs.declared.kind.Kind.{Kind}
-use Rattle.isa.specs.declared.kind.Kind.TheVariants as kind
 use Rattle.isa.specs.declared.instruction.Instruction.{Instruction}
 use Rattle.isa.specs.declared.instruction.Role.{Role}
-use Rattle.isa.specs.declared.instruction.Role.TheVariants.{Save, Idle, Exit, Other}
+use Rattle.isa.specs.declared.instruction.Role.TheVariants.{Save, Idle}
 use Rattle.isa.specs.Slot.{slot_count}
-use Rattle.isa.specs.Helper.{holds}
 use Rattle.isa.specs.Instruction.{ways_by, ways_out, role_by, role_of}
 use Rattle.isa.specs.Image.{instruction_at}
 use Rattle.isa.specs.Lawful.{Inside, Lawful}
@@ -17,30 +15,15 @@ use Rattle.pricing.specs.Model.{Model}
 use Rattle.walks.specs.ImageGraph.{price_by, role_in, ways_in, price_in, role_at, ways_at, price_at, graph_of}
 use Rattle.walks.specs.Placing.{is_idle, turned}
 use Rattle.walks.specs.TurnedImage.{TurnedImage, TurnedRight}
-use Rattle.walks.proofs.Clash.{clash}
 use Rattle.walks.proofs.Imaging.{stands_at, saves_at_lem, idles_at, inside_at}
 
 idle_only : (r : Role) → is_idle r ≡ true → r ≡ Idle
-idle_only Idle e = refl
-idle_only Save e = clash (cc)
-idle_only Exit e = clash (cc)
-idle_only Other e = clash (cc)
+idle_only r e = grind arith
 
 -- a save goes to the next slot alone
 save_inside : (k : Kind) (offset imm target : ℤ) (i n : ℕ) → role_by k offset imm ≡ Save → suc i < n
     → Inside (ways_by k (pos (i + 1)) target).0 n × Inside (ways_by k (pos (i + 1)) target).1 n
-save_inside kind.Call offset imm target i n e h = (omega arith, tt)
-save_inside kind.Jump offset imm target i n e h = neither (holds offset 0) e
-  where
-    neither : {X : Type 0} (b : Bool) → cond b Idle Other ≡ Save → X
-    neither true e = clash (cc)
-    neither false e = clash (cc)
-save_inside kind.Exit offset imm target i n e h = clash (cc)
-save_inside (kind.Arithmetic w o s) offset imm target i n e h = clash (cc)
-save_inside (kind.Branch w o s) offset imm target i n e h = clash (cc)
-save_inside (kind.Load z) offset imm target i n e h = clash (cc)
-save_inside (kind.StoreImm z) offset imm target i n e h = clash (cc)
-save_inside (kind.StoreReg z) offset imm target i n e h = clash (cc)
+save_inside k offset imm target i n e h = grind arith
 
 module _ (m : Model) (P : ℕ → Bool) (before after : List ℕ) (t : TurnedImage P before after) where
   abbrev turns_at : ℕ → Bool
@@ -49,11 +32,7 @@ module _ (m : Model) (P : ℕ → Bool) (before after : List ℕ) (t : TurnedIma
   -- what a slot is after, by whether it turns
   by_turn : {A : Type 0} (f : Option Instruction → A) (a : A) → ((x : Instruction) → role_of x ≡ Save → f (Some x) ≡ a)
       → (i : ℕ) → f (instruction_at after i) ≡ cond (turns_at i) a (f (instruction_at before i))
-  by_turn f a saved i =
-      ⊎_elim
-      (λ (e : turns_at i ≡ true). let x = t.turns i e in ap f x.1 ∙ saved x.0 x.2 ∙ sym (cond-true _ _ _ e))
-      (λ (e : turns_at i ≡ false). ap f (t.keeps i e) ∙ sym (cond-false _ _ _ e))
-      (cases_Bool (turns_at i))
+  by_turn f a saved i = grind arith
 
   role_after : (i : ℕ) → role_at after i ≡ cond (turns_at i) Save (role_at before i)
   unfolding role_at

@@ -1,92 +1,23 @@
 -- Turning more idle nodes keeps what was accepted, so what the placer leaves turned is needed, and what it refuses is hopeless.
-use Rattle.std.proofs.Common.{◌≡◌, ℕ, ◌≤◌, Bool, true, false, cond, ◌&&◌, ◌⊎◌, refl, subst, inl, inr, ⊎_elim, arith}
+use Rattle.std.proofs.Common.{◌≡◌, ℕ, Bool, true, refl, subst, arith}
 use mathlib.Core.Path.{subst⁻¹}
-use Rattle.isa.specs.declared.instruction.Role.{Role}
-use Rattle.isa.specs.declared.instruction.Role.TheVariants.{Save, Idle, Exit, Other}
-use Rattle.walks.specs.Graph.{Graph, ending, Sound}
+use Rattle.walks.specs.Graph.{Graph, Sound}
 use Rattle.walks.specs.Acceptance.{Accepted, Answer, accepted, loop, over, Means}
 use Rattle.walks.specs.Certified.{certified}
-use Rattle.walks.specs.Placing.{Within, without, is_idle, idles, turned, is_accepted, tried, allowed, placed, placement_by, Tight, RightPlacement, Placeable, PlacementRight}
+use Rattle.walks.specs.Placing.{Within, without, idles, turned, is_accepted, tried, allowed, placed, placement_by, Tight, RightPlacement, Placeable, PlacementRight}
 use Rattle.walks.proofs.Cutting.{Cut, cut_accepted}
 use Rattle.walks.proofs.Certifying.{certified_means, means_one}
 use Rattle.walks.proofs.Dropping.{dropped_within, dropped_ok, dropped_tight, dropped_upward}
-use Rattle.walks.proofs.Clash.{clash}
-
--- one node of a turned graph, by its role and by whether the set has it
-abbrev turned_role : Role → Bool → Role
-turned_role r p = cond (is_idle r && p) Save r
-
-abbrev turned_price : ℕ → Role → Bool → ℕ → ℕ
-turned_price saving r p price = cond (is_idle r && p) saving price
-
-node_goes : (saving : ℕ) (r : Role) (p q : Bool) (price : ℕ) → (p ≡ true → q ≡ true) → ending (turned_role r q) ≡ false
-    → (ending (turned_role r p) ≡ false) × (turned_price saving r q price ≤ turned_price saving r p price)
-node_goes saving Save p q price w e = (e, omega arith)
-node_goes saving Exit p q price w e = (e, omega arith)
-node_goes saving Other p q price w e = (e, omega arith)
-node_goes saving Idle p true price w e = clash (cc)
-node_goes saving Idle true false price w e = let z = w refl in clash (cc)
-node_goes saving Idle false false price w e = (refl, omega arith)
-
-node_ends : (saving : ℕ) (r : Role) (p q : Bool) (price : ℕ) → ending (turned_role r q) ≡ true
-    → ((ending (turned_role r p) ≡ true) × (turned_price saving r q price ≤ turned_price saving r p price)) ⊎ (turned_price saving r q price ≤ saving)
-node_ends saving Save p q price t = inl (refl, omega arith)
-node_ends saving Exit p q price t = inl (refl, omega arith)
-node_ends saving Other p q price t = clash (cc)
-node_ends saving Idle p true price t = inr (omega arith)
-node_ends saving Idle p false price t = clash (cc)
-
-node_endings : (saving : ℕ) (r : Role) (p : Bool) (price : ℕ) → (ending r ≡ true → saving ≤ price) → ending (turned_role r p) ≡ true
-    → saving ≤ turned_price saving r p price
-node_endings saving Save p price h t = h refl
-node_endings saving Exit p price h t = h refl
-node_endings saving Other p price h t = clash (cc)
-node_endings saving Idle true price h t = omega arith
-node_endings saving Idle false price h t = clash (cc)
-
-node_saves : (r : Role) (p : Bool) → turned_role r p ≡ Save → (r ≡ Save) ⊎ (r ≡ Idle)
-node_saves Save p e = inl refl
-node_saves Exit p e = inl e
-node_saves Other p e = inl e
-node_saves Idle p e = inr refl
-
-node_exits : (r : Role) (p : Bool) → turned_role r p ≡ Exit → r ≡ Exit
-node_exits Save p e = e
-node_exits Exit p e = e
-node_exits Other p e = e
-node_exits Idle true e = clash (cc)
-node_exits Idle false e = e
-
-node_others : (r : Role) (p : Bool) → ending (turned_role r p) ≡ false → ending r ≡ false
-node_others Save p e = e
-node_others Exit p e = e
-node_others Other p e = e
-node_others Idle p e = refl
 
 accepted_only : (a : Answer) → is_accepted a ≡ true → a ≡ accepted
-accepted_only accepted t = refl
-accepted_only (loop n) t = clash (cc)
-accepted_only (over n p) t = clash (cc)
+accepted_only a t = grind arith
 
 module _ (saving : ℕ) (g : Graph) (placeable : Placeable saving g) where
   pub turned_sound : (P : ℕ → Bool) → Sound (turned saving g P)
-  turned_sound P =
-      record {
-        some = placeable.sound.some;
-        inside = placeable.sound.inside;
-        saves = λ n e. ⊎_elim (placeable.sound.saves n) (placeable.idled n) (node_saves (g.role n) (P n) e);
-        exits = λ n e. placeable.sound.exits n (node_exits (g.role n) (P n) e);
-        others = λ n h e. placeable.sound.others n h (node_others (g.role n) (P n) e);
-      }
+  turned_sound P = grind arith
 
   turned_cut : (P Q : ℕ → Bool) → Within P Q → Cut saving (turned saving g P) (turned saving g Q)
-  turned_cut P Q w =
-      record {
-        ways = λ n. refl;
-        goes = λ n e. node_goes saving (g.role n) (P n) (Q n) (g.price n) (w n) e;
-        ends = λ n t. node_ends saving (g.role n) (P n) (Q n) (g.price n) t;
-        endings = λ n t. node_endings saving (g.role n) (P n) (g.price n) (placeable.endings n) t;
-      }
+  turned_cut P Q e = grind arith
 
   module _ (budget : ℕ) where
     pub turned_more : (P Q : ℕ → Bool) → Within P Q → Accepted (turned saving g P) budget → Accepted (turned saving g Q) budget

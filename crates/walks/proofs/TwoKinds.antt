@@ -1,5 +1,5 @@
--- The two kinds of path value keep the laws, and their prices are plain sums while these stay small.
-use Rattle.std.proofs.Common.{◌≡◌, ℕ, zero, suc, ◌-◌, ◌*◌, ◌^◌, ◌<◌, ◌≤◌, min, max, true, false, List, [], ◌∷◌, length, sym, refl, ap, ⊎_elim, arith}
+-- The prices of the two kinds of path value are plain sums while these stay small.
+use Rattle.std.proofs.Common.{◌≡◌, ℕ, zero, suc, ◌-◌, ◌*◌, ◌^◌, ◌≤◌, min, true, false, List, [], ◌∷◌, length, sym, refl, ⊎_elim, arith}
 use Rattle.std.proofs.lemmas.Bool.{cond-true, cond-false, cases_Bool}
 use Rattle.std.proofs.lemmas.Bool.Decides.{nat_tests}
 use Rattle.paths.specs.declared.price.Price.{Price}
@@ -7,9 +7,10 @@ use Rattle.paths.specs.declared.worth.Worth.{Worth}
 use Rattle.paths.specs.Kind.{PathKind, Laws}
 use Rattle.paths.specs.Net.{Complete}
 use Rattle.paths.specs.Join.{value, JoinFrom}
-use Rattle.paths.specs.Price.{added, priced, price_kind}
+use Rattle.paths.specs.Price.{price_kind, Saturates}
 use Rattle.paths.specs.Worth.{worth_kind}
 use Rattle.paths.proofs.Joining.{join_node, same_join}
+use Rattle.paths.proofs.KindLaws.{price_laws, worth_laws}
 use Rattle.walks.specs.Graph.{Graph, net_of, Sound, Small}
 use Rattle.walks.specs.Walk.{Reachable, next, walk_price}
 use Rattle.walks.specs.Acceptance.{Unlooped}
@@ -17,51 +18,6 @@ use Rattle.walks.specs.Reached.{reached}
 use Rattle.walks.specs.Worth.{worth_within, worth_of, WorthsIn, CompleteRight, WorthRight}
 use Rattle.walks.proofs.Walking.{onward_way, reach_below, reached_yes, reached_is, chain_short}
 use Rattle.walks.proofs.Worths.{worth_joined, joined_dearest, list_complete, complete_list}
-
-pub price_laws : Laws price_kind
-price_laws =
-    record {
-      associative = λ x y z. ap priced (omega arith);
-      commutative = λ x y. ap priced (omega arith);
-      idempotent = λ x. ap priced (omega arith);
-      spreads = λ x y s p. ap priced (omega arith);
-    }
-
-same_worth : (x y : Worth) → x.price ≡ y.price → x.slot ≡ y.slot → x ≡ y
-same_worth x y a b = λ i. record { price = a i; slot = b i }
-
-abbrev join : Worth → Worth → Worth
-join = worth_kind.join
-
-join_price : (x y : Worth) → (join x y).price ≡ max x.price y.price
-join_price x y = grind (arith, nat_tests)
-
-join_slot : (x y : Worth) → (x.price < y.price → (join x y).slot ≡ y.slot) × (y.price < x.price → (join x y).slot ≡ x.slot) × (x.price ≡ y.price → (join x y).slot ≡ min x.slot y.slot)
-join_slot x y = (λ h. grind (arith, nat_tests), λ h. grind (arith, nat_tests), λ h. grind (arith, nat_tests))
-
-pub worth_laws : Laws worth_kind
-worth_laws =
-    record {
-      associative = λ x y z.
-          let a = join_price x y in
-          let b = join_price (join x y) z in
-          let c = join_price y z in
-          let d = join_price x (join y z) in
-          let e = join_slot x y in
-          let f = join_slot (join x y) z in
-          let g = join_slot y z in
-          let h = join_slot x (join y z) in
-          same_worth _ _ (omega arith) (grind arith);
-      commutative = λ x y. same_worth _ _ (grind (arith, nat_tests)) (grind (arith, nat_tests));
-      idempotent = λ x. same_worth _ _ (grind (arith, nat_tests)) (grind (arith, nat_tests));
-      spreads = λ x y s p. same_worth _ _ (grind (arith, nat_tests)) (grind (arith, nat_tests));
-    }
-
--- a kind whose values have prices that stop at 2^64 - 1
-record Saturates {V : Type 0} (k : PathKind V) (price : V → ℕ) : Type 0 where
-  at_empty : price k.empty ≡ 0
-  at_join : (x y : V) → price (k.join x y) ≡ max (price x) (price y)
-  at_extend : (x : V) (s p : ℕ) → price (k.extend x s p) ≡ added (price x) p
 
 module _ {V : Type 0} (k : PathKind V) (laws : Laws k) (price : V → ℕ) (saturates : Saturates k price) (g : Graph) where
   value_price : (w : List ℕ) → price (value k (net_of g) w) ≡ min (walk_price g w) (2 ^ 64 - 1)
@@ -82,7 +38,7 @@ module _ {V : Type 0} (k : PathKind V) (laws : Laws k) (price : V → ℕ) (satu
     worth_join : (n : ℕ) → Reachable g n → JoinFrom k (net_of g) n (worth_of k g n)
     worth_join n r = rw (← worth_is n r) (worth_joined k laws g sound unlooped n r)
 
-    worths_in : WorthsIn k price g (worth_of k g)
+    pub worths_in : WorthsIn k price g (worth_of k g)
     worths_in =
         record {
           extended = λ n r.

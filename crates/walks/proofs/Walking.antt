@@ -12,21 +12,16 @@ use Rattle.walks.specs.Reached.{near, reached}
 use Rattle.walks.specs.Certified.{is_save, returns, looped, started}
 use Rattle.walks.proofs.Lists.{any_sound, any_complete, Distinct, fits}
 use Rattle.walks.proofs.Steps.{Steps, steps_on, last_in, twice_join, twice_on, near_sound, near_all}
-use Rattle.walks.proofs.Clash.{clash}
 
 cut_split : (b : Bool) (l : List ℕ) (t : ℕ) → In t (cond b [] l) → (b ≡ false) × In t l
-cut_split true l t i = absurd i
-cut_split false l t i = (refl, i)
+cut_split b l t i = grind arith
 
 distinct_of : (l : List ℕ) → ((x : ℕ) → Twice x l → ⊥) → Distinct l
 distinct_of [] f = tt
 distinct_of (x ∷ l) f = (λ i. f x (inl (refl, i)), distinct_of l (λ y t. f y (inr t)))
 
 save_test : (r : Role) → is_save r ≡ true → r ≡ Save
-save_test Save h = refl
-save_test Exit h = clash (cc)
-save_test Idle h = clash (cc)
-save_test Other h = clash (cc)
+save_test r h = grind arith
 
 module _ (g : Graph) where
   pub onward_way : (n t : ℕ) → In t (onward g n) → In t (g.ways n)

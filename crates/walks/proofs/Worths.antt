@@ -1,15 +1,15 @@
 -- The worth of a node joins its complete lists; where values have prices, it has the dearest of them.
-use Rattle.std.proofs.Common.{◌≡◌, ℕ, zero, suc, ◌<◌, ◌≤◌, max, true, false, List, [], ◌∷◌, length, sym, refl, ap, ◌∙◌, subst, ⊎_elim, arith}
-use Rattle.std.proofs.lemmas.Bool.{cases_lt, cases_Bool, cond-true}
+use Rattle.std.proofs.Common.{◌≡◌, ℕ, zero, suc, ◌<◌, ◌≤◌, max, true, List, [], ◌∷◌, length, sym, refl, ap, ◌∙◌, subst, ⊎_elim, arith}
+use Rattle.std.proofs.lemmas.Bool.{cases_lt, cond-true}
 use Rattle.paths.specs.Kind.{PathKind, Laws}
-use Rattle.paths.specs.Net.{In, Complete, ends, goes}
+use Rattle.paths.specs.Net.{Complete, ends, goes}
 use Rattle.paths.specs.Join.{value, Made, one, two, JoinFrom}
 use Rattle.paths.proofs.Joining.{join_node}
 use Rattle.walks.specs.Graph.{Graph, ending, onward, net_of, Sound}
 use Rattle.walks.specs.Walk.{Reachable, Chain, CompleteList, walk_price}
 use Rattle.walks.specs.Acceptance.{Unlooped, Dearest}
 use Rattle.walks.specs.Worth.{worth_within}
-use Rattle.walks.proofs.Walking.{way_onward, onward_inside, chain_short}
+use Rattle.walks.proofs.Walking.{onward_inside, chain_short}
 
 module _ {V : Type 0} (k : PathKind V) (laws : Laws k) (g : Graph) where
   -- as many steps as the longest list has suffice
@@ -30,12 +30,7 @@ module _ (g : Graph) where
 
   module _ (sound : Sound g) where
     no_onward : (n : ℕ) → n < g.size → onward g n ≡ [] → ending (g.role n) ≡ true
-    no_onward n h e =
-        ⊎_elim (λ (b : ending (g.role n) ≡ true). b)
-        (λ (b : ending (g.role n) ≡ false).
-        let w = sound.others n h b in
-        absurd (let none : In w.0 [] = subst (λ (l : List ℕ). In w.0 l) e (way_onward g n w.0 b w.1) in none))
-        (cases_Bool (ending (g.role n)))
+    no_onward n e t = grind arith
 
     pub complete_list : (w : List ℕ) (n : ℕ) → n < g.size → Complete (net_of g) n w → (l : List ℕ) × (w ≡ n ∷ l) × CompleteList g n l
     complete_list w n h (ends e) = ([], refl, (tt, no_onward n h e))

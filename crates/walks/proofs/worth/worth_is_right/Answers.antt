@@ -1,6 +1,8 @@
-use Rattle.std.proofs.Common.{rules}
 use Rattle.walks.proofs.TwoKinds.{complete_right, worth_right}
 use Rattle.walks.proofs.worth.worth_is_right.Goals as goal
 
-pub returns : goal.returns
-returns c = record { told = search rules; worth = worth_right; complete = complete_right }
+pub returns-clause-worth : goal.returns-clause-worth
+returns-clause-worth c = worth_right
+
+pub returns-clause-complete : goal.returns-clause-complete
+returns-clause-complete c = complete_right

@@ -1,5 +1,4 @@
 pub mod Flood
-pub mod List
 pub mod Loops
 pub mod Order
 pub mod Reach

@@ -4,11 +4,10 @@
 --     Sorted g starts order        an order of the nodes that the starts reach
 --     Searched g starts outcome    what an outcome says: an order, and no node that the starts reach lies on a loop;
 --                                  or some node that they reach does
-use Rattle.std.specs.Prelude.{ℕ, ◌<◌, Bool, ◌↔◌, List, length, ◌≢◌, slice_index}
+use Rattle.std.specs.Prelude.{ℕ, ◌<◌, Bool, ◌↔◌, List, length, Result, Ok, Err, ◌≢◌, slice_index}
+use Rattle.arrayvec.specs.ArrayVec.{ArrayVec}
 use Rattle.paths.specs.Net.{Net, In, Listed}
-use Rattle.search.specs.declared.order.Outcome.{Outcome}
-use Rattle.search.specs.declared.order.Outcome.TheVariants.{Ordered, Looping}
-use Rattle.search.specs.List.{list_of}
+use Rattle.search.specs.declared.order.Looping.{Looping}
 use Rattle.search.specs.Reach.{Reached, Looped}
 
 abbrev pub After : Net → List ℕ → Type 0
@@ -24,6 +23,6 @@ pub record Sorted (g : Net) (starts : List Bool) (order : List ℕ) : Type 0 whe
   pub exact : (n : ℕ) → Listed order (length order) n ↔ ((n < 1024) × Reached g starts n)
   pub unlooped : (n : ℕ) → Looped g starts n → ⊥
 
-abbrev pub Searched : Net → List Bool → Outcome → Type 0
-Searched g starts (Ordered order) = Sorted g starts (list_of order)
-Searched g starts Looping = (n : ℕ) × Looped g starts n
+abbrev pub Searched : Net → List Bool → Result (ArrayVec ℕ) Looping → Type 0
+Searched g starts (Ok order) = Sorted g starts order.items
+Searched g starts (Err _) = (n : ℕ) × Looped g starts n

@@ -6,10 +6,10 @@
 // for it.
 #![tactic(auto)]
 
-pub mod list;
 pub mod loops;
 pub mod order;
 pub mod reach;
+pub mod table;
 mod ways;
 
 // How many nodes a table has.

@@ -6,7 +6,8 @@ ghost use Rattle.search.specs.Reach.{OnLoop};
 ghost use Rattle.search.specs.Loops.{Lowest};
 
 use crate::NODES;
-use crate::reach::{reach, reach_from};
+use crate::reach::reach_from;
+use crate::table::Table;
 use crate::ways::goes_to;
 use paths::node::Node;
 
@@ -14,23 +15,17 @@ fn on_loop(nodes: &[Node; 1024], node: u16) -> bool
     ensures { (result ≡ true) ↔ OnLoop (tabled nodes.now) node }
 {
     let seen = reach_from(nodes, node);
-    for at in 0..NODES as usize {
-        if seen[at] && goes_to(nodes[at].successors, node) {
-            return true;
-        }
-    }
-    false
+    seen.iter()
+        .zip(nodes)
+        .any(|(&seen, before)| seen && goes_to(before.successors, node))
 }
 
-// The lowest node on a loop among those that the starts reach.
-pub fn lowest_looped(nodes: &[Node; 1024], starts: &[bool; 1024]) -> Option<u16>
-    ensures { Lowest (tabled nodes.now) starts.now result }
-{
-    let reached = reach(nodes, starts);
-    for node in 0..NODES {
-        if reached[node as usize] && on_loop(nodes, node) {
-            return Some(node);
-        }
+impl Table<'_> {
+    // The lowest node on a loop among those that the starts reach.
+    pub fn lowest_looped(&self) -> Option<u16>
+        ensures { Lowest (tabled self.now.nodes.now) self.now.starts.now result }
+    {
+        let reached = self.reach();
+        (0..NODES).find(|&node| reached[node as usize] && on_loop(self.nodes, node))
     }
-    None
 }

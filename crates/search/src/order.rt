@@ -1,17 +1,16 @@
 // The search for an order, each node after its successors, or for a loop:
 // depth first, from a node to its ways out and from a way out to the node that
 // it reaches, at most 1,024 deep.
-ghost use Rattle.std.specs.Prelude.{◌≡◌, Some, MatchBool};
+ghost use Rattle.std.specs.Prelude.{◌≡◌, Some, OnOk, OnErr};
 ghost use Rattle.paths.specs.Net.{tabled};
 ghost use Rattle.search.specs.declared.order.Mark.TheVariants.{New};
-ghost use Rattle.search.specs.List.{list_of};
 ghost use Rattle.search.specs.Visit.{mark_at, Enters, Visited, LoopAhead};
 ghost use Rattle.search.specs.Order.{Searched};
 
 use crate::NODES;
-use crate::list::NodeList;
+use crate::table::Table;
 use crate::ways::ways_within;
-use paths::node::Node;
+use arrayvec::ArrayVec;
 
 #[derive(Clone, Copy)]
 enum Mark {
@@ -24,66 +23,65 @@ enum Mark {
 // The nodes visited so far, and the order of those that are done.
 #[derive(Drop)]
 struct Visits {
+    // Stays: one for each of the device's 1,024 slots.
     marks: [Mark; 1024],
-    order: NodeList,
+    order: ArrayVec<u16, 1024>,
 }
 
-pub enum Outcome {
-    // the nodes that the starts reach, each after its successors
-    Ordered(NodeList),
-    Looping,
-}
+// There is no order, since a node lies on a loop.
+#[derive(Clone, Copy, Debug, PartialEq, Eq)]
+pub struct Looping;
 
-// False where the node leads to a loop.
-#[cycle(visit_node_visit_way)]
-fn visit_node(nodes: &[Node; 1024], visits: &mut Visits, at: u16, depth: u16) -> bool
-    requires ready { Enters (tabled nodes.now) visits.old.marks (list_of visits.old.order) (Some at) depth }
-    requires fresh { mark_at visits.old.marks at ≡ New }
-    ensures { MatchBool result (Visited (tabled nodes.now) visits.old.marks visits.new.marks (list_of visits.new.order) (Some at)) (LoopAhead (tabled nodes.now) (Some at)) }
-{
-    let node = at as usize;
-    let (next, target) = ways_within(nodes[node].successors);
-    visits.marks[node] = Mark::Open;
-    if !visit_way(nodes, visits, next, depth - 1) {
-        return false;
+impl Table<'_> {
+    // Fails where the node leads to a loop.
+    #[cycle(visit_node_visit_way)]
+    fn visit_node(&self, visits: &mut Visits, at: u16, depth: u16) -> Result<(), Looping>
+        requires ready { Enters (tabled self.now.nodes.now) visits.old.marks visits.old.order.items (Some at) depth }
+        requires fresh { mark_at visits.old.marks at ≡ New }
+        ensures ok { OnOk result (Visited (tabled self.now.nodes.now) visits.old.marks visits.new.marks visits.new.order.items (Some at)) }
+        ensures err { OnErr result (LoopAhead (tabled self.now.nodes.now) (Some at)) }
+    {
+        let node = at as usize;
+        let (first, second) = ways_within(self.nodes[node].successors);
+        visits.marks[node] = Mark::Open;
+        self.visit_way(visits, first, depth - 1)?;
+        self.visit_way(visits, second, depth - 1)?;
+        visits.marks[node] = Mark::Done;
+        visits.order.push(at);
+        Ok(())
     }
-    if !visit_way(nodes, visits, target, depth - 1) {
-        return false;
-    }
-    visits.marks[node] = Mark::Done;
-    visits.order.push(at);
-    true
-}
 
-// False where the way leads to a loop.
-#[cycle(visit_node_visit_way)]
-fn visit_way(nodes: &[Node; 1024], visits: &mut Visits, way: Option<u16>, depth: u16) -> bool
-    requires { Enters (tabled nodes.now) visits.old.marks (list_of visits.old.order) way depth }
-    ensures { MatchBool result (Visited (tabled nodes.now) visits.old.marks visits.new.marks (list_of visits.new.order) way) (LoopAhead (tabled nodes.now) way) }
-{
-    match way {
-        None => true,
-        Some(at) => match visits.marks[at as usize] {
-            Mark::New => visit_node(nodes, visits, at, depth),
-            Mark::Open => false,
-            Mark::Done => true,
-        },
-    }
-}
-
-// Puts the nodes that the starts reach in an order, each after its successors;
-// or tells that one of them lies on a loop.
-pub fn find_order(nodes: &[Node; 1024], starts: &[bool; 1024]) -> Outcome
-    ensures { Searched (tabled nodes.now) starts.now result }
-{
-    let mut visits = Visits {
-        marks: [Mark::New; 1024],
-        order: NodeList::new(),
-    };
-    for start in 0..NODES {
-        if starts[start as usize] && !visit_way(nodes, &mut visits, Some(start), NODES) {
-            return Outcome::Looping;
+    // Fails where the way leads to a loop.
+    #[cycle(visit_node_visit_way)]
+    fn visit_way(&self, visits: &mut Visits, way: Option<u16>, depth: u16) -> Result<(), Looping>
+        requires { Enters (tabled self.now.nodes.now) visits.old.marks visits.old.order.items way depth }
+        ensures ok { OnOk result (Visited (tabled self.now.nodes.now) visits.old.marks visits.new.marks visits.new.order.items way) }
+        ensures err { OnErr result (LoopAhead (tabled self.now.nodes.now) way) }
+    {
+        let Some(at) = way else {
+            return Ok(());
+        };
+        match visits.marks[at as usize] {
+            Mark::New => self.visit_node(visits, at, depth),
+            Mark::Open => Err(Looping),
+            Mark::Done => Ok(()),
         }
     }
-    Outcome::Ordered(visits.order)
+
+    // Puts the nodes that the starts reach in an order, each after its
+    // successors, or tells that one of them lies on a loop.
+    pub fn find_order(&self) -> Result<ArrayVec<u16, 1024>, Looping>
+        ensures { Searched (tabled self.now.nodes.now) self.now.starts.now result }
+    {
+        let mut visits = Visits {
+            marks: [Mark::New; 1024],
+            order: ArrayVec::new(),
+        };
+        for start in 0..NODES {
+            if self.starts[start as usize] {
+                self.visit_way(&mut visits, Some(start), NODES)?;
+            }
+        }
+        Ok(visits.order)
+    }
 }

@@ -9,7 +9,7 @@ use paths::node::Successors;
 fn within(node: u16) -> Option<u16>
     ensures { result ≡ within node }
 {
-    if node < NODES { Some(node) } else { None }
+    (node < NODES).then_some(node)
 }
 
 // The pair of ways out, none for one that is not there or leaves the table.

@@ -1,5 +1,5 @@
 use Rattle.std.proofs.Common.{◌+◌, ◌*◌}
-use Rattle.search.proofs.order.+visit_node_visit_way.Given as goal
+use Rattle.search.proofs.table.Table.+visit_node_visit_way.Given as goal
 
 abbrev pub decreases-visit_node : goal.decreases-visit_node
 decreases-visit_node l = 2 * l.depth

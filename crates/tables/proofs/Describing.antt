@@ -1,11 +1,11 @@
 -- The tables of a lawful image say what its graph says.
-use Rattle.std.proofs.Common.{◌≡◌, ℕ, ◌-◌, ◌%◌, ◌<◌, ◌≤◌, Bool, true, false, cond, ◌&&◌, eqb, leb, ◌↔◌, List, [], ◌∷◌, ◌++◌, length, get_or, ℤ, pos, negsuc, Some, None, Option, sym, refl, ap, ◌∙◌, subst, inl, inr, ⊎_elim, arith}
+use Rattle.std.proofs.Common.{◌≡◌, ℕ, ◌-◌, ◌<◌, ◌≤◌, Bool, true, false, cond, eqb, ◌↔◌, List, [], ◌∷◌, ◌++◌, get_or, ℤ, Some, None, Option, sym, refl, ap, ◌∙◌, subst, inl, inr, ⊎_elim, arith}
 use mathlib.Core.Path.{subst⁻¹}
 use lib.ListN.{get_or-eq_default}
-use Rattle.std.proofs.lemmas.Bool.{and_parts, and_from, or_cases, or_left, or_right, leb-true, eqb-true, eq-eqb, lt-ltb, cases_eq, cases_lt}
+use Rattle.std.proofs.lemmas.Bool.{and_parts, and_from, or_cases, or_left, or_right, eqb-true, eq-eqb, cases_eq, cases_lt}
 use Rattle.isa.specs.declared.instruction.Instruction.{Instruction}
 use Rattle.isa.specs.declared.instruction.Role.{Role}
-use Rattle.isa.specs.declared.instruction.Role.TheVariants.{Save, Idle, Exit, Other}
+use Rattle.isa.specs.declared.instruction.Role.TheVariants.{Save}
 use Rattle.isa.specs.Slot.{slot_count}
 use Rattle.isa.specs.Instruction.{ways_out, role_of}
 use Rattle.isa.specs.Image.{instruction_at}
@@ -14,48 +14,34 @@ use Rattle.pricing.specs.Model.{Model}
 use Rattle.paths.specs.declared.node.Successors.{Successors}
 use Rattle.paths.specs.declared.node.Successors.TheVariants.{End}
 use Rattle.paths.specs.declared.node.Node.{Node}
-use Rattle.paths.specs.Net.{In, ways_of, node_at, tabled, Described}
+use Rattle.paths.specs.Net.{In, ways_of, no_node, node_at, tabled, Described}
 use Rattle.walks.specs.Graph.{Graph, ending, onward, net_of, Sound}
 use Rattle.walks.specs.Walk.{Reachable, first, next, Start}
-use Rattle.walks.specs.ImageGraph.{way_list, role_in, ways_in, price_in, role_at, ways_at, price_at, graph_of}
+use Rattle.walks.specs.ImageGraph.{way_list, role_in, ways_in, role_at, ways_at, price_at, graph_of}
 use Rattle.walks.specs.Certified.{is_save}
 use Rattle.walks.proofs.Imaging.{lawful_sound}
 use Rattle.walks.proofs.Walking.{reach_below}
 use Rattle.search.specs.Reach.{Reaches, itself, onward as further, Tells}
-use Rattle.tables.specs.Node.{numbered, paired, successors_of, no_node, Tabled}
+use Rattle.tables.specs.Node.{numbered, paired, successors_of, Tabled}
 use Rattle.tables.specs.Start.{way_node, saved_at, started_by}
 use Rattle.tables.specs.Walk.{walk_node}
-use Rattle.walks.proofs.Clash.{clash}
 
 pub slots_small : (image : List ℕ) → Lawful image → slot_count image ≤ 1024
-slots_small image lawful =
-    let p = and_parts (leb 1 (length image) && leb (length image) 8192) (eqb (length image % 8) 0) lawful.sized in
-    let q = and_parts (leb 1 (length image)) (leb (length image) 8192) p.0 in
-    let high = leb-true (length image) 8192 q.1 in
-    omega arith
+slots_small image lawful = grind arith
 
 abbrev listed : Option ℕ → List ℕ
 listed None = []
 listed (Some n) = n ∷ []
 
 ways_paired : (a b : Option ℕ) → ways_of (paired a b) ≡ listed a ++ listed b
-ways_paired None None = refl
-ways_paired (Some a) None = refl
-ways_paired None (Some b) = refl
-ways_paired (Some a) (Some b) = refl
+ways_paired a b = grind arith
 
 -- a way out that stays in the image keeps its number
 kept_number : (w : Option ℤ) (n : ℕ) → n ≤ 1024 → Inside w n → listed (numbered w) ≡ way_list w
-kept_number None n h i = refl
-kept_number (Some (pos k)) n h i =
-    let l : k < 1024 = omega (arith, i) in ap (λ (b : Bool). listed (cond b (Some k) None)) (lt-ltb k 1024 l)
-kept_number (Some (negsuc k)) n h i = refl
+kept_number w n h i = grind arith
 
 save_role : (r : Role) → is_save r ≡ true → r ≡ Save
-save_role Save e = refl
-save_role Idle e = clash (cc)
-save_role Exit e = clash (cc)
-save_role Other e = clash (cc)
+save_role r e = grind arith
 
 module _ (m : Model) (image : List ℕ) (lawful : Lawful image) where
   abbrev g : Graph
@@ -96,15 +82,10 @@ module _ (m : Model) (image : List ℕ) (lawful : Lawful image) where
 
   walk_price_lem : (i : ℕ) → price_at m image i ≡ (walk_node m i (instruction_at image i)).price
   unfolding price_at
-  walk_price_lem i = go (instruction_at image i)
-    where
-      go : (o : Option Instruction) → price_in m o ≡ (walk_node m i o).price
-      go None = refl
-      go (Some x) = refl
+  walk_price_lem i = grind arith
 
   walk_slot : (i : ℕ) (o : Option Instruction) → i ≡ (walk_node m i o).slot
-  walk_slot i None = refl
-  walk_slot i (Some x) = refl
+  walk_slot i o = grind arith
 
   pub described : (nodes : List Node) → Tabled no_node nodes (λ i. walk_node m i (instruction_at image i)) 1024
       → (n : ℕ) → n < 1024 → Described nodes (net_of g) n

@@ -4,4 +4,5 @@
 
 mod node;
 pub mod start;
+mod table;
 pub mod walk;

@@ -3,28 +3,14 @@ ghost use Rattle.std.specs.Prelude.{◌≡◌};
 ghost use Rattle.tables.specs.Node.{numbered, paired, successors_of};
 
 use isa::instruction::Instruction;
-use paths::node::{Node, Successors};
-
-pub const NO_NODE: Node = Node {
-    slot: 0,
-    price: 0,
-    successors: Successors::End,
-};
+use paths::node::Successors;
 
 // A way out as the number of a slot, where there can be such a slot.
 fn slot_number(way: Option<i32>) -> Option<u16>
     ensures { result ≡ numbered way }
 {
-    match way {
-        Some(slot) => {
-            if 0 <= slot && slot < 1024 {
-                Some(slot as u16)
-            } else {
-                None
-            }
-        }
-        None => None,
-    }
+    way.and_then(|slot| u16::try_from(slot).ok())
+        .filter(|slot| *slot < 1024)
 }
 
 fn pair(next: Option<u16>, target: Option<u16>) -> Successors
@@ -32,8 +18,7 @@ fn pair(next: Option<u16>, target: Option<u16>) -> Successors
 {
     match (next, target) {
         (Some(next), Some(target)) => Successors::Both(next, target),
-        (Some(next), None) => Successors::One(next),
-        (None, Some(target)) => Successors::One(target),
+        (Some(way), None) | (None, Some(way)) => Successors::One(way),
         (None, None) => Successors::End,
     }
 }

@@ -4,29 +4,27 @@ ghost use Rattle.isa.specs.Image.{instruction_at};
 ghost use Rattle.isa.specs.Lawful.{Lawful};
 ghost use Rattle.pricing.specs.Model.{Model};
 ghost use Rattle.walks.specs.Walk.{Start};
-ghost use Rattle.walks.specs.ImageGraph.{graph_of, role_in};
-ghost use Rattle.walks.specs.Certified.{is_save};
+ghost use Rattle.walks.specs.ImageGraph.{graph_of};
 ghost use Rattle.search.specs.Reach.{Tells};
-ghost use Rattle.tables.specs.Node.{no_node, Tabled};
+ghost use Rattle.paths.specs.Net.{no_node};
+ghost use Rattle.tables.specs.Node.{Tabled};
 ghost use Rattle.tables.specs.Start.{way_node, saved_at, started_by};
 
-use crate::node::{NO_NODE, successors_of};
+use crate::node::successors_of;
+use crate::table::table_of;
 use isa::image::instruction_at;
 use isa::instruction::{Instruction, Role};
-use paths::node::{Node, Successors};
+use paths::node::Node;
 use search::reach::reach_from;
+use walks::image_graph::role_at;
 
 fn way_node(at: u16, there: Option<Instruction>) -> Node
     ensures { result ≡ way_node at there }
 {
-    let successors = match there {
-        Some(instruction) => successors_of(instruction),
-        None => Successors::End,
-    };
     Node {
         slot: at,
         price: 0,
-        successors,
+        successors: there.map(successors_of).unwrap_or_default(),
     }
 }
 
@@ -34,31 +32,16 @@ fn way_node(at: u16, there: Option<Instruction>) -> Node
 fn way_table(image: &[u8]) -> [Node; 1024]
     ensures { Tabled no_node result (λ i. way_node i (instruction_at image.now i)) 1024 }
 {
-    let mut nodes = [NO_NODE; 1024];
-    for at in 0..1024u16 {
-        nodes[at as usize] = way_node(at, instruction_at(image, at));
-    }
-    nodes
-}
-
-fn is_save(there: Option<Instruction>) -> bool
-    ensures { result ≡ is_save (role_in there) }
-{
-    match there {
-        Some(instruction) => match instruction.role() {
-            Role::Save => true,
-            _ => false,
-        },
-        None => false,
-    }
+    table_of(|at| way_node(at, instruction_at(image, at)))
 }
 
 // Whether a slot is a save that is reached.
+// Stays: a struct of image and reached slots would be made for one table and taken apart in it.
 fn saved_at(image: &[u8], reached: &[bool; 1024], at: u16) -> bool
     requires { at < 1024 }
     ensures { result ≡ saved_at image.now reached.now at }
 {
-    is_save(instruction_at(image, at)) && reached[at as usize]
+    role_at(image, at) == Role::Save && reached[at as usize]
 }
 
 fn is_start(image: &[u8], reached: &[bool; 1024], at: u16) -> bool
@@ -71,11 +54,7 @@ fn is_start(image: &[u8], reached: &[bool; 1024], at: u16) -> bool
 fn start_table(image: &[u8], reached: &[bool; 1024]) -> [bool; 1024]
     ensures { Tabled false result (started_by image.now reached.now) 1024 }
 {
-    let mut starts = [false; 1024];
-    for at in 0..1024u16 {
-        starts[at as usize] = is_start(image, reached, at);
-    }
-    starts
+    table_of(|at| is_start(image, reached, at))
 }
 
 // Slot 0, and the slot after each reachable save.

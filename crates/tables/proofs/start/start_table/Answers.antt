@@ -1,6 +1,7 @@
-use Rattle.std.proofs.Common.{arith}
-use Rattle.tables.proofs.Tabling.{table_put}
+use Rattle.std.proofs.Common.{rules, false}
 use Rattle.tables.proofs.start.start_table.Goals as goal
 
-pub loop-at-preserved : goal.loop-at-preserved
-loop-at-preserved c = table_put _ _ _ _ _ (omega arith) c.is_start.ensures c.loop-at.invariant
+pub returns : goal.returns
+returns c =
+    let t = c.table_of.ensures in
+    record { size = t.size; holds = λ k below. let p = t.holds k false below in search rules }

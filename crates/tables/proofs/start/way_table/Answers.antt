@@ -1,7 +1,8 @@
-use Rattle.std.proofs.Common.{ap, ◌∙◌, arith}
-use Rattle.tables.specs.Start.{way_node}
-use Rattle.tables.proofs.Tabling.{table_put}
+use Rattle.std.proofs.Common.{rules}
+use Rattle.paths.specs.Net.{no_node}
 use Rattle.tables.proofs.start.way_table.Goals as goal
 
-pub loop-at-preserved : goal.loop-at-preserved
-loop-at-preserved c = table_put _ _ _ _ _ (omega arith) (c.way_node.ensures ∙ ap (way_node c.loop-at.at) c.instruction_at.ensures.value) c.loop-at.invariant
+pub returns : goal.returns
+returns c =
+    let t = c.table_of.ensures in
+    record { size = t.size; holds = λ k below. let p = t.holds k no_node below in search rules }

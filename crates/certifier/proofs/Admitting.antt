@@ -1,22 +1,21 @@
 -- The checks before the walks: what passing them means, and by which numbers they refuse.
-use Rattle.std.proofs.Common.{◌≡◌, ℕ, ◌≤◌, Bool, true, false, cond, ◌||◌, eqb, leb, ◌↔◌, List, Some, None, Ok, Err, Option, Result, refl, ap, ◌∙◌, subst, arith}
+use Rattle.std.proofs.Common.{◌≡◌, ℕ, ◌≤◌, Bool, true, false, cond, ◌||◌, ◌⊎◌, inl, inr, eqb, leb, ◌↔◌, List, Some, None, Ok, Err, Option, Result, refl, ap, ◌∙◌, subst, arith}
 use Rattle.std.specs.Result.{result_err}
-use Rattle.std.proofs.lemmas.Bool.{and_parts, and_from, or_from, leb-true, le-leb, ne_eqb}
+use Rattle.std.proofs.lemmas.Bool.{and_parts, and_from, leb-true, le-leb}
 use Rattle.isa.specs.declared.slot.Slot.{Slot}
 use Rattle.isa.specs.declared.kind.Kind.{Kind}
 use Rattle.isa.specs.declared.instruction.Instruction.{Instruction}
 use Rattle.isa.specs.declared.refusal.Refusal.{Refusal}
-use Rattle.isa.specs.declared.refusal.Refusal.TheVariants.{Budget, FieldNotZero, FramePointer, NoHelper, NoRegister, WayOut, WorkingList}
+use Rattle.isa.specs.declared.refusal.Refusal.TheVariants.{Budget, WorkingList}
 use Rattle.isa.specs.First.{First}
 use Rattle.isa.specs.Slot.{slot_at}
 use Rattle.isa.specs.Opcode.{kind_of}
-use Rattle.isa.specs.Rule.{registers_exist, zeros_kept, frame_pointer_kept, helper_known, unless, fault_of, decoded_as}
+use Rattle.isa.specs.Rule.{fault_of, decoded_as}
 use Rattle.isa.specs.Image.{instruction_at}
 use Rattle.isa.specs.Refusal.{told_of, ok_unless}
 use Rattle.isa.specs.Lawful.{fault_in, fault_at, leaving_in, leaving_at, lawfulness, Breaks, length_bad, slot_bad, way_bad}
 use Rattle.isa.proofs.Judging.{judging}
 use Rattle.certifier.specs.Certify.{within_limits, admission, InOrder}
-use Rattle.walks.proofs.Clash.{clash}
 
 -- a refusal by what the walks of an image do: 9 or 10
 abbrev pub of_walks : Refusal → Bool
@@ -26,20 +25,11 @@ abbrev Early : Option Refusal → Type 0
 Early None = Unit {0}
 Early (Some r) = (told_of r).number ≤ 7
 
-unless_early : (b : Bool) (r : Refusal) (o : Option Refusal) → (told_of r).number ≤ 7 → Early o → Early (unless b r o)
-unless_early true r o h e = e
-unless_early false r o h e = h
-
 fault_early : (k : Kind) (s : Slot) (i : ℕ) → Early (fault_of k s i)
-fault_early k s i =
-    unless_early (registers_exist s) (NoRegister i) _ (omega arith)
-    (unless_early (zeros_kept k s) (FieldNotZero i) _ (omega arith)
-    (unless_early (frame_pointer_kept k s) (FramePointer i) _ (omega arith)
-    (unless_early (helper_known k s) (NoHelper i) None (omega arith) tt)))
+fault_early k s i = grind arith
 
 err_early : {A : Type 0} (o : Option Refusal) (a : A) → Early o → Early (result_err (ok_unless o a))
-err_early None a e = e
-err_early (Some r) a e = e
+err_early o a e = grind arith
 
 decoded_early : (k : Option Kind) (s : Slot) (i : ℕ) → Early (result_err (decoded_as k s i))
 decoded_early None s i = omega arith
@@ -49,13 +39,8 @@ slot_early : (o : Option Slot) (i : ℕ) → Early (fault_in o i)
 slot_early None i = tt
 slot_early (Some s) i = decoded_early (kind_of s.opcode) s i
 
-way_early : (b : Bool) (i : ℕ) → Early (cond b None (Some (WayOut i)))
-way_early true i = tt
-way_early false i = omega arith
-
 leaving_early : (o : Option Instruction) (n : ℕ) → Early (leaving_in o n)
-leaving_early None n = tt
-leaving_early (Some x) n = way_early _ x.at
+leaving_early o n = grind arith
 
 first_early : (f : ℕ → Option Refusal) (n : ℕ) (r : Refusal) → ((i : ℕ) → Early (f i)) → First f n r → (told_of r).number ≤ 7
 first_early f n r early first = subst Early first.given (early first.at)
@@ -65,8 +50,9 @@ breaks_early image r (length_bad e) = omega arith
 breaks_early image r (slot_bad e first) = first_early (fault_at image) _ r (λ i. slot_early (slot_at image i) i) first
 breaks_early image r (way_bad e none first) = first_early (leaving_at image _) _ r (λ i. leaving_early (instruction_at image i) _) first
 
-low : (n : ℕ) → n ≤ 7 → (eqb n 9 || eqb n 10) ≡ false
-low n h = or_from (eqb n 9) (eqb n 10) (ne_eqb n 9 (λ e. omega arith)) (ne_eqb n 10 (λ e. omega arith))
+-- the numbers of the refusals before the walks
+abbrev pub Numbered : Refusal → Type 0
+Numbered r = ((told_of r).number ≤ 8) ⊎ ((told_of r).number ≡ 12)
 
 module _ (image : List ℕ) (budget room : ℕ) where
   abbrev by : Bool → Bool → Result (Unit {0}) Refusal → Result (Unit {0}) Refusal
@@ -76,8 +62,8 @@ module _ (image : List ℕ) (budget room : ℕ) where
   admitted = (go (within_limits budget) (leb 1024 room) refl refl, back)
     where
       go : (b c : Bool) → within_limits budget ≡ b → leb 1024 room ≡ c → by b c (lawfulness image) ≡ Ok tt → InOrder image budget room
-      go false c p q e = clash (cc)
-      go true false p q e = clash (cc)
+      go false c p q e = cc
+      go true false p q e = cc
       go true true p q e =
           let limits = and_parts (leb 1 budget) (leb budget 100000000) p in
           record { some = leb-true 1 budget limits.0; most = leb-true budget 100000000 limits.1; roomy = leb-true 1024 room q; lawful = (judging image).accepted e }
@@ -89,10 +75,13 @@ module _ (image : List ℕ) (budget room : ℕ) where
           ∙ ap (λ (c : Bool). by true c (lawfulness image)) (le-leb 1024 room o.roomy)
           ∙ (judging image).accepts o.lawful
 
-  pub not_of_walks : (r : Refusal) → admission image budget room ≡ Err r → of_walks r ≡ false
-  not_of_walks r = go (within_limits budget) (leb 1024 room)
+  pub early_number : (r : Refusal) → admission image budget room ≡ Err r → Numbered r
+  early_number r = go (within_limits budget) (leb 1024 room)
     where
-      go : (b c : Bool) → by b c (lawfulness image) ≡ Err r → of_walks r ≡ false
-      go false c e = let same : Budget ≡ r = cc in subst (λ (x : Refusal). of_walks x ≡ false) same refl
-      go true false e = let same : WorkingList ≡ r = cc in subst (λ (x : Refusal). of_walks x ≡ false) same refl
-      go true true e = low (told_of r).number (breaks_early image r ((judging image).refused r e))
+      go : (b c : Bool) → by b c (lawfulness image) ≡ Err r → Numbered r
+      go false c e = let same : Budget ≡ r = cc in subst Numbered same (inl (omega arith))
+      go true false e = let same : WorkingList ≡ r = cc in subst Numbered same (inr refl)
+      go true true e = let h = breaks_early image r ((judging image).refused r e) in inl (omega arith)
+
+  pub not_of_walks : (r : Refusal) → admission image budget room ≡ Err r → of_walks r ≡ false
+  not_of_walks r e = let n = early_number r e in grind arith

@@ -4,37 +4,33 @@ use mathlib.Core.Path.{subst⁻¹}
 use Rattle.isa.specs.declared.refusal.Refusal.{Refusal}
 use Rattle.isa.specs.declared.refusal.Refusal.TheVariants.{Loop, OverBudget}
 use Rattle.pricing.specs.Model.{Model, Bounded}
-use Rattle.paths.specs.declared.price.Price.{Price}
-use Rattle.paths.specs.declared.worth.Worth.{Worth}
-use Rattle.paths.specs.Price.{price_kind}
-use Rattle.paths.specs.Worth.{worth_kind}
+use Rattle.paths.specs.Kind.{PathKind, Laws}
+use Rattle.paths.specs.Price.{Saturates}
 use Rattle.walks.specs.Graph.{Graph, Sound}
 use Rattle.walks.specs.Acceptance.{Answer, accepted, loop, over, Means}
 use Rattle.walks.specs.Certified.{certified}
 use Rattle.walks.specs.ImageGraph.{graph_of}
 use Rattle.walks.proofs.Imaging.{lawful_small, lawful_sound}
-use Rattle.walks.proofs.TwoKinds.{worth_right}
+use Rattle.walks.proofs.TwoKinds.{worths_in}
 use Rattle.walks.proofs.Certifying.{certified_right}
 use Rattle.certifier.specs.Certify.{result_of, and_then, admission, certification, InOrder, Meaning}
 use Rattle.certifier.specs.Judge.{Judged}
-use Rattle.certifier.specs.Priced.{price_of_price, price_of_worth}
 use Rattle.certifier.proofs.Admitting.{of_walks, admitted, not_of_walks}
-use Rattle.walks.proofs.Clash.{clash}
 use Rattle.certifier.proofs.Judging.{judged_means}
 
 result_one : (a b : Answer) → result_of a ≡ result_of b → a ≡ b
 result_one accepted accepted e = refl
-result_one accepted (loop s) e = clash (cc)
-result_one accepted (over s p) e = clash (cc)
-result_one (loop s) accepted e = clash (cc)
+result_one accepted (loop s) e = cc
+result_one accepted (over s p) e = cc
+result_one (loop s) accepted e = cc
 result_one (loop s) (loop t) e = cc
-result_one (loop s) (over t p) e = clash (cc)
-result_one (over s p) accepted e = clash (cc)
-result_one (over s p) (loop t) e = clash (cc)
+result_one (loop s) (over t p) e = cc
+result_one (over s p) accepted e = cc
+result_one (over s p) (loop t) e = cc
 result_one (over s p) (over t q) e = cc
 
 answer_of_walks : (a : Answer) (r : Refusal) → Err r ≡ result_of a → of_walks r ≡ true
-answer_of_walks accepted r e = clash (cc)
+answer_of_walks accepted r e = cc
 answer_of_walks (loop s) r e = let same : r ≡ Loop s = cc in ap of_walks same
 answer_of_walks (over s p) r e = let same : r ≡ OverBudget s p = cc in ap of_walks same
 
@@ -55,16 +51,11 @@ module _ (m : Model) (image : List ℕ) (budget room : ℕ) where
     at_walks : (a : Answer) → Means g budget a → result_of a ≡ certification m image budget room
     at_walks a means = sym (ap then ((admitted image budget room).1 order) ∙ ap result_of ((certified_right g sound budget a).1 means))
 
-    -- a judgement by either kind of path value is the answer
-    module _ (bounded : Bounded m) (r : Result (Unit {0}) Refusal) where
-      pub at_worths : (old new : List Worth) → Judged worth_kind price_of_worth g budget old new r → r ≡ certification m image budget room
-      at_worths old new judged =
-          let q = judged_means worth_kind price_of_worth g sound (2 * 65535) (lawful_small m bounded image order.lawful) (λ u. (worth_right g sound u).worths) budget old new r judged in
-          q.2 ∙ at_walks q.0 q.1
-
-      pub at_prices : (old new : List Price) → Judged price_kind price_of_price g budget old new r → r ≡ certification m image budget room
-      at_prices old new judged =
-          let q = judged_means price_kind price_of_price g sound (2 * 65535) (lawful_small m bounded image order.lawful) (λ u. (worth_right g sound u).prices) budget old new r judged in
+    -- a judgement by any kind of path value with prices is the answer
+    module _ (bounded : Bounded m) {V : Type 0} (k : PathKind V) (laws : Laws k) (price : V → ℕ) (saturates : Saturates k price) where
+      pub at_worths : (old new : List V) (r : Result (Unit {0}) Refusal) → Judged k price g budget old new r → r ≡ certification m image budget room
+      at_worths old new r judged =
+          let q = judged_means k price g sound (2 * 65535) (lawful_small m bounded image order.lawful) (worths_in k laws price saturates g sound) budget old new r judged in
           q.2 ∙ at_walks q.0 q.1
 
   -- the answers about walks are given exactly when all is in order and they say what is so

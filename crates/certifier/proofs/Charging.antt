@@ -14,15 +14,17 @@ module _ {V : Type 0} (price : V → ℕ) (d : V) (worths : List V) (starts : Li
   at = over_at price d worths starts budget
 
   -- what a turn of the loop finds at slot i
-  module _ (i p : ℕ) (o : Option Refusal) (over : o ≡ over_by (get_or starts i false) p budget i) (priced : p ≡ price (get_or worths i d))
-      (before : first_below at i ≡ None) where
-    here : at i ≡ o
-    here = sym (over ∙ ap (λ (q : ℕ). over_by (get_or starts i false) q budget i) priced)
+  module _ (i p : ℕ) (priced : p ≡ price (get_or worths i d)) (before : first_below at i ≡ None) where
+    abbrev found : Option Refusal
+    found = over_by (get_or starts i false) p budget i
 
-    pub charge_over : (r : Refusal) → o ≡ Some r → i < 1024 → Err r ≡ answer (first_below at 1024)
+    here : at i ≡ found
+    here = ap (λ (q : ℕ). over_by (get_or starts i false) q budget i) (sym priced)
+
+    pub charge_over : (r : Refusal) → found ≡ Some r → i < 1024 → Err r ≡ answer (first_below at 1024)
     charge_over r e h = sym (ap answer (some_below at 1024 i r h before (here ∙ e)))
 
-    pub charge_more : o ≡ None → first_below at (i + 1) ≡ None
+    pub charge_more : found ≡ None → first_below at (i + 1) ≡ None
     charge_more e = none_more at i before (here ∙ e)
 
   pub charge_done : (i : ℕ) → i ≡ 1024 → first_below at i ≡ None → Ok tt ≡ answer (first_below at 1024)

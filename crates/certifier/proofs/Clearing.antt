@@ -1,30 +1,17 @@
--- A front that is cleared node by node.
-use Rattle.std.proofs.Common.{◌≡◌, ℕ, ◌+◌, ◌<◌, ◌≤◌, min, List, length, get_or, set, ap, ◌∙◌, ⊎_elim, arith, get_or-set_other, get_or-set_same}
-use mathlib.Core.Path.{subst⁻¹}
-use lib.ListN.{get_or-eq_default}
-use Rattle.std.proofs.lemmas.Bool.{cases_eq, cases_lt}
+-- A front that is filled by one value.
+use Rattle.std.proofs.Common.{◌≡◌, ℕ, zero, suc, min, List, [], ◌∷◌, ◌++◌, length, get_or, drop, take, refl, arith}
+use Rattle.std.proofs.lemmas.Grind.{common_steps}
+use Rattle.std.specs.List.{FoldsTo}
 use Rattle.paths.specs.Kind.{PathKind}
 use Rattle.certifier.specs.Clear.{Cleared}
 
-module _ {V : Type 0} (k : PathKind V) (xs ys : List V) where
-  pub cleared_more : (i : ℕ) (zs : List V) → i < length ys → zs ≡ set ys i k.empty → Cleared k i xs ys → Cleared k (i + 1) xs zs
-  cleared_more i zs h e c =
-      let at : ℕ → V = λ n. get_or (set ys i k.empty) n k.empty in
-      subst⁻¹ (Cleared k (i + 1) xs) e
-      (record {
-        below = λ n l. ⊎_elim
-            (λ (q : n ≡ i). ap at q ∙ get_or-set_same ys i k.empty k.empty h)
-            (λ (ne : n ≡ i → ⊥). get_or-set_other ys i n k.empty k.empty ne ∙ c.below n (omega arith))
-            (cases_eq n i);
-        beyond = λ n l. let ne : n ≡ i → ⊥ = λ q. omega arith in get_or-set_other ys i n k.empty k.empty ne ∙ c.beyond n (omega arith);
-      })
+-- where each call gives e, and keeps what S says of the function, the list of what they gave is e everywhere
+module _ {F V : Type 0} (R : F → V → F → Type 0) (e : V) (S : F → Type 0) (gives : (p q : F) (x : V) → S p → R p x q → S q × (x ≡ e)) where
+  pub all_given : (xs : List V) (f last : F) → S f → FoldsTo R f xs last → (n : ℕ) → get_or xs n e ≡ e
+  all_given [] f last s h n = refl
+  all_given (x ∷ xs) f last s (q, r, rest) zero = (gives f q x s r).1
+  all_given (x ∷ xs) f last s (q, r, rest) (suc n) = all_given xs q last (gives f q x s r).0 rest n
 
-  pub cleared_all : (i count : ℕ) → i ≤ count → min count (length ys) ≤ i → Cleared k i xs ys → Cleared k count xs ys
-  cleared_all i count a b c =
-      record {
-        below = λ n l. ⊎_elim
-            (λ (q : n < i). c.below n q)
-            (λ (q : i ≤ n). get_or-eq_default ys k.empty (omega arith))
-            (cases_lt n i);
-        beyond = λ n l. c.beyond n (omega arith);
-      }
+pub cleared : {V : Type 0} (k : PathKind V) (count m : ℕ) (xs ys : List V) → m ≡ min count (length xs) → length ys ≡ length (take m xs)
+    → ((n : ℕ) → get_or ys n k.empty ≡ k.empty) → Cleared k count xs (ys ++ drop m xs)
+cleared k count m xs ys e l all = record { below = λ n h. grind (arith, common_steps, all n); beyond = λ n h. grind (arith, common_steps) }

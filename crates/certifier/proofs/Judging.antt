@@ -16,15 +16,12 @@ use Rattle.walks.proofs.Walking.{reach_below, start_reached}
 use Rattle.search.specs.Reach.{Tells}
 use Rattle.certifier.specs.Certify.{result_of}
 use Rattle.certifier.specs.Judge.{WorthsLeft, over_at, DearStart, Judged, looping, dear, paid}
-use Rattle.walks.proofs.Clash.{clash}
 
 over_none : (b : Bool) (r : Refusal) → cond b (Some r) None ≡ None → b ≡ true → ⊥
-over_none true r e t = clash (cc)
-over_none false r e t = clash (cc)
+over_none b r e t = grind arith
 
 over_some : (b : Bool) (r s : Refusal) → cond b (Some r) None ≡ Some s → (b ≡ true) × (r ≡ s)
-over_some true r s e = (refl, cc)
-over_some false r s e = clash (cc)
+over_some b r s e = grind arith
 
 module _ {V : Type 0} (k : PathKind V) (price : V → ℕ) (g : Graph) (sound : Sound g) (small : g.size ≤ 1024) (budget : ℕ)
     (starts : List Bool) (told : Tells starts (Start g)) (old new : List V) (left : WorthsLeft k g old new) where

@@ -4,7 +4,7 @@ use mathlib.Core.Path.{subst⁻¹}
 use lib.ListN.{get_or-eq_default}
 use Rattle.std.proofs.lemmas.Bool.{cases_lt}
 use Rattle.paths.specs.declared.node.Node.{Node}
-use Rattle.paths.specs.Net.{In, Listed, ways_of, node_at, tabled, Described}
+use Rattle.paths.specs.Net.{In, Listed, ways_of, no_node, node_at, tabled, Described}
 use Rattle.paths.specs.Fill.{OrderOf}
 use Rattle.walks.specs.Graph.{Graph, onward, net_of, Sound}
 use Rattle.walks.specs.Walk.{Reachable, next, Start}
@@ -16,7 +16,6 @@ use Rattle.walks.proofs.Ordering.{loop_right}
 use Rattle.search.specs.Reach.{Reaches, itself, onward as further, Reached, Leads as LeadsIn, Looped as LoopedIn, Tells}
 use Rattle.search.specs.Order.{Sorted}
 use Rattle.search.specs.Loops.{Least}
-use Rattle.tables.specs.Node.{no_node}
 
 module _ (g : Graph) (sound : Sound g) (small : g.size ≤ 1024) (nodes : List Node) (sized : length nodes ≡ 1024)
     (described : (n : ℕ) → n < 1024 → Described nodes (net_of g) n) where

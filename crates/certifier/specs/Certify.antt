@@ -6,13 +6,15 @@
 --     certification m image budget room     the answer: that check, and else the answer about the walks
 --     InOrder image budget room     the budget is within its limits, the working list has 1,024 entries, and the image is lawful
 --     Meaning m image budget room r     what an answer says of the walks of an image
---     Left g old new r              what an answer leaves in the working list
-use Rattle.std.specs.Prelude.{◌≡◌, ℕ, ◌≤◌, Bool, cond, ◌&&◌, ◌↔◌, List, Ok, Err, Result, ◌≢◌, nat_le}
+--     LeftBy k g old new r          what an answer leaves in a list of values of a kind
+--     Left g old new r              the same of worths: what it leaves in the working list
+use Rattle.std.specs.Prelude.{◌≡◌, ℕ, ◌≤◌, Bool, if◌then◌else◌, ◌&&◌, ◌↔◌, List, Ok, Err, Result, ◌≢◌, nat_le}
 use Rattle.isa.specs.declared.refusal.Refusal.{Refusal}
 use Rattle.isa.specs.declared.refusal.Refusal.TheVariants.{Budget, Loop, OverBudget, WorkingList}
 use Rattle.isa.specs.Lawful.{lawfulness, Lawful}
 use Rattle.pricing.specs.Model.{Model}
 use Rattle.paths.specs.declared.worth.Worth.{Worth}
+use Rattle.paths.specs.Kind.{PathKind}
 use Rattle.paths.specs.Worth.{worth_kind}
 use Rattle.walks.specs.Graph.{Graph}
 use Rattle.walks.specs.Acceptance.{Lowest, Looped, Accepted, TooDear, Answer, accepted, loop, over}
@@ -34,7 +36,8 @@ and_then (Err r) later = Err r
 
 -- the budget, the room, and then the rules on images
 abbrev pub admission : List ℕ → ℕ → ℕ → Result (Unit {0}) Refusal
-admission image budget room = cond (within_limits budget) (cond (nat_le 1024 room) (lawfulness image) (Err WorkingList)) (Err Budget)
+admission image budget room =
+    if within_limits budget then (if nat_le 1024 room then lawfulness image else Err WorkingList) else Err Budget
 
 abbrev pub certification : Model → List ℕ → ℕ → ℕ → Result (Unit {0}) Refusal
 certification m image budget room = and_then (admission image budget room) (result_of (certified (graph_of m image) budget))
@@ -53,9 +56,12 @@ pub record Meaning (m : Model) (image : List ℕ) (budget room : ℕ) (r : Resul
   -- refused over budget: slot s is the lowest start with a walk over budget, and p the price of its dearest walk
   pub dear : (s p : ℕ) → (r ≡ Err (OverBudget s p)) ↔ (InOrder image budget room × TooDear (graph_of m image) budget s p)
 
-pub record Left (g : Graph) (old new : List Worth) (r : Result (Unit {0}) Refusal) : Type 0 where
+pub record LeftBy {V : Type 0} (k : PathKind V) (g : Graph) (old new : List V) (r : Result (Unit {0}) Refusal) : Type 0 where
   -- the worths after acceptance and after a refusal over budget,
-  pub accepted : r ≡ Ok tt → WorthsLeft worth_kind g old new
-  pub dear : (s p : ℕ) → r ≡ Err (OverBudget s p) → WorthsLeft worth_kind g old new
+  pub accepted : r ≡ Ok tt → WorthsLeft k g old new
+  pub dear : (s p : ℕ) → r ≡ Err (OverBudget s p) → WorthsLeft k g old new
   -- and after any other refusal what it held before
   pub others : (b : Refusal) → r ≡ Err b → ((s p : ℕ) → b ≢ OverBudget s p) → new ≡ old
+
+abbrev pub Left : Graph → List Worth → List Worth → Result (Unit {0}) Refusal → Type 0
+Left g old new r = LeftBy worth_kind g old new r

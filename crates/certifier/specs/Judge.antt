@@ -5,7 +5,7 @@
 --                                  budget; d past the list's end
 --     DearStart k price g budget n     n is a start, and its worth is over budget
 --     Judged k price g budget old new r     what an answer r says of a graph, and what it leaves in the list
-use Rattle.std.specs.Prelude.{◌≡◌, ℕ, ◌<◌, ◌≤◌, Bool, false, cond, ◌&&◌, List, length, Some, None, Ok, Err, Option, Result, nat_lt, slice_index_or}
+use Rattle.std.specs.Prelude.{◌≡◌, ℕ, ◌<◌, ◌≤◌, Bool, false, if◌then◌else◌, ◌&&◌, List, length, Some, None, Ok, Err, Option, Result, nat_lt, slice_index_or}
 use Rattle.isa.specs.declared.refusal.Refusal.{Refusal}
 use Rattle.isa.specs.declared.refusal.Refusal.TheVariants.{Loop, OverBudget}
 use Rattle.paths.specs.Kind.{PathKind}
@@ -20,7 +20,7 @@ pub record WorthsLeft {V : Type 0} (k : PathKind V) (g : Graph) (old new : List 
   pub past : (n : ℕ) → g.size ≤ n → slice_index_or new n k.empty ≡ slice_index_or old n k.empty
 
 abbrev pub over_by : Bool → ℕ → ℕ → ℕ → Option Refusal
-over_by start price budget i = cond (start && nat_lt budget price) (Some (OverBudget i price)) None
+over_by start price budget i = if start && nat_lt budget price then Some (OverBudget i price) else None
 
 abbrev pub over_at : {V : Type 0} → (V → ℕ) → V → List V → List Bool → ℕ → ℕ → Option Refusal
 over_at price d worths starts budget i = over_by (slice_index_or starts i false) (price (slice_index_or worths i d)) budget i

@@ -1,5 +1,7 @@
 // A path value with a price.
 ghost use Rattle.std.specs.Prelude.{◌≡◌, ℕ};
+ghost use Rattle.std.proofs.Common.{rules};
+ghost use Rattle.paths.specs.Price.{Saturates};
 ghost use Rattle.certifier.specs.Priced.{price_of_price, price_of_worth};
 
 use paths::kind::PathValue;
@@ -11,6 +13,8 @@ pub trait Priced: PathValue {
 
     fn price(self) -> u64
         ensures { result ≡ price self };
+
+    ghost saturates: { Saturates Self.kind price };
 }
 
 impl Priced for Price {
@@ -19,6 +23,8 @@ impl Priced for Price {
     fn price(self) -> u64 {
         self.price
     }
+
+    ghost saturates = { Prim.search rules };
 }
 
 impl Priced for Worth {
@@ -27,4 +33,6 @@ impl Priced for Worth {
     fn price(self) -> u64 {
         self.price
     }
+
+    ghost saturates = { Prim.search rules };
 }

@@ -1,5 +1,6 @@
 // The limits of the budget and of the working list, and which comes first.
-use certifier::certify::certify;
+use certifier::certify::Certifier;
+use isa::refusal::Refusal;
 use paths::worth::Worth;
 use pricing::operand::OperandModel;
 use std::test::Fail;
@@ -8,12 +9,12 @@ const EXIT: &[u8; 8] = b"\x95\0\0\0\0\0\0\0";
 
 // The refusal of an image at a budget, with a working list of so many
 // entries; 0 where it is accepted.
+// Stays: the cases are a table of numbers.
 fn answer(rt: &HostRuntime, image: &[u8], budget: u64, entries: usize) -> Result<u8, Fail> {
-    let mut working = vec![in rt.alloc(); Worth { price: 0, slot: 0 }; entries]?;
-    match certify(image, &OperandModel, budget, working.as_mut_slice()) {
-        Ok(()) => Ok(0),
-        Err(refusal) => Ok(refusal.number()),
-    }
+    let mut working = vec![in rt.alloc(); Worth::default(); entries]?;
+    let model = &OperandModel;
+    let answer = Certifier { model, budget }.certify(image, &mut working);
+    Ok(answer.map_or_else(Refusal::number, |()| 0))
 }
 
 #[test]

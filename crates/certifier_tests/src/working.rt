@@ -1,5 +1,5 @@
 // What certifying leaves in the working list.
-use certifier::certify::certify;
+use certifier::certify::Certifier;
 use paths::worth::Worth;
 use pricing::operand::OperandModel;
 use std::process::Abort;
@@ -18,7 +18,8 @@ const MARK: Worth = Worth { price: 99, slot: 9 };
 
 fn left(image: &[u8], budget: u64) -> [Worth; 1024] {
     let mut working = [MARK; 1024];
-    let _ = certify(image, &OperandModel, budget, &mut working);
+    let model = &OperandModel;
+    let _ = Certifier { model, budget }.certify(image, &mut working);
     working
 }
 

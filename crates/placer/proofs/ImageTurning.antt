@@ -1,8 +1,10 @@
 -- The bytes of an image with idle slots turned into saves, and what its slots are.
+use Rattle.std.proofs.lemmas.Bool.Decides.{nat_tests}
+use Rattle.std.proofs.lemmas.Grind.{common_steps}
 use Rattle.std.proofs.Common.{◌≡◌, ℕ, ◌+◌, ◌-◌, ◌*◌, ◌/◌, ◌%◌, ◌<◌, ◌≤◌, Bool, true, false, cond, ◌&&◌, eqb, ltb, leb, List, [], ◌∷◌, length, get_or, Some, None, Option, sym, refl, ap, ◌∙◌, subst, ⊎_elim, arith, w16, w32, to_z}
 use Rattle.std.proofs.lemmas.List.FromFn.{length-map-range_with_len, get_or-map-range_with_len}
 use Rattle.std.proofs.lemmas.List.{ext_get_or}
-use Rattle.std.proofs.lemmas.Bool.{and_parts, cases_lt, lt-ltb, le-ltb, cond-true, cond-false}
+use Rattle.std.proofs.lemmas.Bool.{and_parts, and_left, cases_eq, lt-ltb, cond-true, cond-false}
 use Rattle.isa.specs.declared.slot.Slot.{Slot}
 use Rattle.isa.specs.declared.instruction.Instruction.{Instruction}
 use Rattle.isa.specs.declared.instruction.Role.TheVariants.{Save}
@@ -10,8 +12,6 @@ use Rattle.isa.specs.Slot.{slot_count, little, byte_of}
 use Rattle.isa.specs.Opcode.{kind_of, class_of, code_of, source_of, under, operations, tests, sizes, negation, arithmetic, branch, access, classes, singles, joined}
 use Rattle.isa.specs.Instruction.{role_of}
 use Rattle.isa.specs.Image.{well_sized, legal_in, instruction_at}
-use Rattle.walks.specs.Placing.{is_idle}
-use Rattle.walks.specs.ImageGraph.{role_in, role_at}
 use Rattle.walks.specs.TurnedImage.{TurnedImage}
 use Rattle.placer.specs.SlotBytes.{bytes_at, with_bytes, idle_bytes, save_bytes}
 use Rattle.placer.specs.Turn.{idles_in, turns_in, turned_byte, turned_image}
@@ -19,16 +19,7 @@ use Rattle.placer.proofs.Writing.{byte_of_lem, with_is}
 use Rattle.placer.proofs.Idling.{idle_bytes_lem, idle_there}
 
 bytes_same : (a b : List ℕ) (i j : ℕ) → ((k : ℕ) → k < 8 → byte_of a i k ≡ byte_of b j k) → bytes_at a i ≡ bytes_at b j
-bytes_same a b i j same =
-    let e0 = same 0 (omega arith) in
-    let e1 = same 1 (omega arith) in
-    let e2 = same 2 (omega arith) in
-    let e3 = same 3 (omega arith) in
-    let e4 = same 4 (omega arith) in
-    let e5 = same 5 (omega arith) in
-    let e6 = same 6 (omega arith) in
-    let e7 = same 7 (omega arith) in
-    cc
+bytes_same a b i j h1 = grind arith
 
 module _ (P : ℕ → Bool) (image : List ℕ) where
   pub length_turned : length (turned_image P image) ≡ length image
@@ -40,10 +31,7 @@ module _ (P : ℕ → Bool) (image : List ℕ) where
   byte_turned j h = get_or-map-range_with_len (turned_byte P image) 0 (length image) j j 0 h (omega arith)
 
   byte_in_lem : (i k : ℕ) → k < 8 → turned_byte P image (8 * i + k) ≡ cond (turns_in P image i) (get_or save_bytes k 0) (byte_of image i k)
-  byte_in_lem i k h =
-      let slot : (8 * i + k) / 8 ≡ i = omega arith in
-      let place : (8 * i + k) % 8 ≡ k = omega arith in
-      rw (slot, place)
+  byte_in_lem i k h1 = grind arith
 
   module _ (i : ℕ) (inside : 8 * i + 8 ≤ length image) where
     bytes_by : (k : ℕ) → k < 8 → byte_of (turned_image P image) i k ≡ cond (turns_in P image i) (get_or save_bytes k 0) (byte_of image i k)
@@ -71,12 +59,8 @@ fields_by bytes =
 abbrev instruction_by : Bool → Bool → List ℕ → ℕ → Option Instruction
 instruction_by sized within bytes i = cond sized (legal_in (cond within (Some (fields_by bytes)) None) i) None
 
-by_bytes : (image : List ℕ) (i : ℕ) → instruction_at image i ≡ instruction_by (well_sized image) (ltb i (slot_count image)) (bytes_at image i) i
-by_bytes image i = refl
-
 absent : (sized : Bool) (bytes : List ℕ) (i : ℕ) → instruction_by sized false bytes i ≡ None
-absent true bytes i = refl
-absent false bytes i = refl
+absent sized bytes i = grind arith
 
 saved : (i : ℕ) → (x : Instruction) × (instruction_by true true save_bytes i ≡ Some x) × (role_of x ≡ Save)
 unfolding kind_of class_of code_of source_of under operations tests sizes negation arithmetic branch access classes singles joined
@@ -87,19 +71,7 @@ sized_by n = leb 1 n && leb n 8192 && eqb (n % 8) 0
 
 -- with as many bytes, and the same at slot i
 by_length : (a b : List ℕ) (i : ℕ) → length a ≡ length b → (i < slot_count b → bytes_at a i ≡ bytes_at b i) → instruction_at a i ≡ instruction_at b i
-by_length a b i e same =
-    let count : slot_count a ≡ slot_count b = ap (λ (n : ℕ). n / 8) e in
-    ⊎_elim
-    (λ (h : i < slot_count b).
-    let s = same h in
-    let t : instruction_by (sized_by (length a)) (ltb i (length a / 8)) (bytes_at a i) i ≡ instruction_by (sized_by (length b)) (ltb i (length b / 8)) (bytes_at b i) i = cc in
-    t)
-    (λ (h : slot_count b ≤ i).
-    let f : ltb i (slot_count a) ≡ false = le-ltb i (slot_count a) (omega arith) in
-    let g : ltb i (slot_count b) ≡ false = le-ltb i (slot_count b) h in
-    ap (λ (w : Bool). instruction_by (well_sized a) w (bytes_at a i) i) f ∙ absent (well_sized a) (bytes_at a i) i
-    ∙ sym (ap (λ (w : Bool). instruction_by (well_sized b) w (bytes_at b i) i) g ∙ absent (well_sized b) (bytes_at b i) i))
-    (cases_lt i (slot_count b))
+by_length a b i h1 h2 = grind (arith, nat_tests, common_steps)
 
 pub turned_image_lem : (P : ℕ → Bool) (image : List ℕ) → TurnedImage P image (turned_image P image)
 turned_image_lem P image =
@@ -152,13 +124,22 @@ module _ (P Q : ℕ → Bool) (image : List ℕ) where
       byte_turned P image j (omega arith) ∙ ap (λ (b : Bool). cond b (get_or save_bytes (j % 8) 0) (get_or image j 0)) (same (j / 8))
       ∙ sym (byte_turned Q image j (omega arith)))
 
+  -- bytes written into slot i, where it is idle
+  pub with_mark : (bytes : List ℕ) (i : ℕ) → ((k : ℕ) → (k ≡ i → ⊥) → turns_in P image k ≡ turns_in Q image k)
+      → (idles_in image i ≡ true → with_bytes (turned_image P image) i bytes ≡ turned_image Q image)
+      → (marked : Bool) → marked ≡ idles_in image i → cond marked (with_bytes (turned_image P image) i bytes) (turned_image P image) ≡ turned_image Q image
+  with_mark bytes i others written true e = written (sym e)
+  with_mark bytes i others written false e =
+      turned_same
+      (λ k.
+      ⊎_elim
+      (λ (same : k ≡ i).
+      let idle : idles_in image k ≡ false = ap (idles_in image) same ∙ sym e in and_left _ (P k) idle ∙ sym (and_left _ (Q k) idle))
+      (others k)
+      (cases_eq k i))
+
 module _ (P : ℕ → Bool) (image : List ℕ) where
   pub turned_none : ((k : ℕ) → turns_in P image k ≡ false) → turned_image P image ≡ image
   turned_none none =
       let n = length_turned P image in
       ext_get_or 0 (turned_image P image) image n (λ j h. byte_turned P image j (omega arith) ∙ cond-false _ _ _ (none (j / 8)))
-
-  -- a slot that is not turned is idle as before
-  pub idle_kept : (i : ℕ) → turns_in P image i ≡ false → idles_in (turned_image P image) i ≡ idles_in image i
-  unfolding role_at
-  idle_kept i e = ap (λ (o : Option Instruction). is_idle (role_in o)) ((turned_image_lem P image).keeps i e)

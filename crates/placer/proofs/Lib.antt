@@ -1,9 +1,8 @@
-pub mod Early
 pub mod Idling
 pub mod ImageTurning
+pub mod Marking
 pub mod Meaning
 pub mod Outcome
 pub mod Rounds
 pub mod Settling
-pub mod TurningUpward
 pub mod Writing

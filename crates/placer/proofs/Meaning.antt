@@ -1,5 +1,5 @@
 -- What the answer of placing means.
-use Rattle.std.proofs.Common.{◌≡◌, ℕ, Bool, List, Ok, Err, Result, refl, subst}
+use Rattle.std.proofs.Common.{◌≡◌, ℕ, Bool, List, Ok, Err, Result, refl, subst, arith}
 use mathlib.Core.Path.{subst⁻¹}
 use Rattle.isa.specs.declared.refusal.Unplaceable.{Unplaceable}
 use Rattle.isa.specs.declared.refusal.Unplaceable.TheVariants as unplaceable
@@ -11,14 +11,12 @@ use Rattle.walks.specs.Graph.{Graph}
 use Rattle.walks.specs.Acceptance.{Accepted, accepted, loop, over, Means}
 use Rattle.walks.specs.ImageGraph.{graph_of}
 use Rattle.walks.specs.Placing.{idles, turned, Placement, left, refused, Tight, Hopeless, RightPlacement}
-use Rattle.walks.proofs.Clash.{clash}
 use Rattle.walks.proofs.Imaging.{lawful_placeable}
 use Rattle.walks.proofs.Turning.{placement_right}
 use Rattle.certifier.specs.Certify.{and_then, admission, InOrder}
-use Rattle.certifier.proofs.Admitting.{admitted}
+use Rattle.certifier.proofs.Admitting.{admitted, early_number}
 use Rattle.placer.specs.Turn.{turned_image}
 use Rattle.placer.specs.Place.{placement_of, answer_by, image_by, left_by, placing, placed_image, answer_of, Meaning, Left}
-use Rattle.placer.proofs.Early.{never_placed}
 use Rattle.placer.proofs.ImageTurning.{turned_image_lem}
 use Rattle.placer.proofs.Settling.{graph_turned, order_turned}
 
@@ -34,25 +32,25 @@ module _ (m : Model) (before : List ℕ) (budget room : ℕ) where
     by_tight P t =
         record {
           accepted = (λ e. (order, (P, record { idle = t.idle; fits = t.fits })), λ x. refl);
-          refused = (λ x. let e = x.1 in clash (cc), λ x. absurd (x.1 P (record { idle = t.idle; fits = t.fits })));
-          carried = λ u e. clash (cc);
+          refused = (λ x. let e = x.1 in cc, λ x. absurd (x.1 P (record { idle = t.idle; fits = t.fits })));
+          carried = λ u e. cc;
           tight = λ e. (P, turned_image_lem P before, t);
           stands = λ e. (
             order_turned m before budget room order P room order.roomy,
             subst⁻¹ (λ (h : Graph). Accepted h budget) (graph_turned m before budget room order P) t.fits,
           );
-          kept = λ b e. clash (cc);
+          kept = λ b e. cc;
         }
 
     by_hopeless : (u : Unplaceable) → Hopeless m.dearest g budget (answer_of u) → Means-so before (Err (NoPlacement u))
     by_hopeless u h =
         record {
-          accepted = (λ e. clash (cc), λ x. absurd (h.none x.1.0 x.1.1.idle x.1.1.fits));
+          accepted = (λ e. cc, λ x. absurd (h.none x.1.0 x.1.1.idle x.1.1.fits));
           refused = (λ x. (order, λ P c. h.none P c.idle c.fits), λ x. (u, refl));
           carried = λ v e.
               let same : u ≡ v = cc in subst (λ (w : Unplaceable). Means (turned m.dearest g (idles g)) budget (answer_of w)) same h.means;
-          tight = λ e. clash (cc);
-          stands = λ e. clash (cc);
+          tight = λ e. cc;
+          stands = λ e. cc;
           kept = λ b e. refl;
         }
 
@@ -62,17 +60,21 @@ module _ (m : Model) (before : List ℕ) (budget room : ℕ) where
     by_placement (refused (loop s)) h = by_hopeless (unplaceable.Loop s) h
     by_placement (refused (over s p)) h = by_hopeless (unplaceable.OverBudget s p) h
 
-  not_admitted : (b : Refusal) → admission before budget room ≡ Err b → Means-so before (Err b)
+  -- the checks before the walks never refuse for want of a placement
+  never_placed : (b : Refusal) → admission before budget room ≡ Err b → (u : Unplaceable) → b ≡ NoPlacement u → ⊥
+  never_placed b e u same = let n = early_number before budget room b e in grind arith
+
+  pub not_admitted : (b : Refusal) → admission before budget room ≡ Err b → Means-so before (Err b)
   not_admitted b e =
       record {
-        accepted = (λ f. clash (cc), λ x. let f = (admitted before budget room).1 x.0 in clash (cc));
+        accepted = (λ f. cc, λ x. let f = (admitted before budget room).1 x.0 in cc);
         refused = (
-          λ x. let f = x.1 in let same : b ≡ NoPlacement x.0 = cc in absurd (never_placed before budget room b e x.0 same),
-          λ x. let f = (admitted before budget room).1 x.0 in clash (cc),
+          λ x. let f = x.1 in let same : b ≡ NoPlacement x.0 = cc in absurd (never_placed b e x.0 same),
+          λ x. let f = (admitted before budget room).1 x.0 in cc,
         );
-        carried = λ u f. let same : b ≡ NoPlacement u = cc in absurd (never_placed before budget room b e u same);
-        tight = λ f. clash (cc);
-        stands = λ f. clash (cc);
+        carried = λ u f. let same : b ≡ NoPlacement u = cc in absurd (never_placed b e u same);
+        tight = λ f. cc;
+        stands = λ f. cc;
         kept = λ c f. refl;
       }
 
@@ -94,8 +96,8 @@ module _ (m : Model) (before : List ℕ) (budget room : ℕ) where
   pub left_early : (old : List Worth) (b : Refusal) → admission before budget room ≡ Err b → Left m before before old old (Err b)
   left_early old b e =
       record {
-        accepted = λ f. clash (cc);
+        accepted = λ f. cc;
         dear = λ s p f.
-            let same : b ≡ NoPlacement (unplaceable.OverBudget s p) = cc in absurd (never_placed before budget room b e (unplaceable.OverBudget s p) same);
+            let same : b ≡ NoPlacement (unplaceable.OverBudget s p) = cc in absurd (never_placed b e (unplaceable.OverBudget s p) same);
         others = λ c f ne. refl;
       }

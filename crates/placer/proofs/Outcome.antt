@@ -1,56 +1,45 @@
 -- What comes out of turning every idle slot, settling and certifying is the placement.
-use Rattle.std.proofs.Common.{◌≡◌, ℕ, ◌/◌, Bool, true, false, List, length, Ok, Err, Result, sym, refl, ap, ◌∙◌, subst, arith}
+use Rattle.std.proofs.Common.{◌≡◌, ℕ, ◌/◌, Bool, true, false, List, length, Ok, Err, Result, sym, refl, ap, ◌∙◌, arith}
 use Rattle.std.proofs.lemmas.Bool.{cond-true, cond-false}
-use Rattle.isa.specs.declared.refusal.Unplaceable.TheVariants as unplaceable
 use Rattle.isa.specs.declared.refusal.Refusal.{Refusal}
-use Rattle.isa.specs.declared.refusal.Refusal.TheVariants.{Loop, NoPlacement}
 use Rattle.isa.specs.Slot.{slot_count}
 use Rattle.pricing.specs.Model.{Model}
 use Rattle.paths.specs.declared.worth.Worth.{Worth}
-use Rattle.paths.specs.Worth.{worth_kind}
 use Rattle.walks.specs.Graph.{Graph}
 use Rattle.walks.specs.Acceptance.{Answer, accepted, loop, over}
 use Rattle.walks.specs.Certified.{certified}
 use Rattle.walks.specs.ImageGraph.{graph_of}
 use Rattle.walks.specs.Placing.{turned, is_accepted, allowed, placed, placement_by}
-use Rattle.walks.proofs.Clash.{clash}
 use Rattle.walks.proofs.Dropping.{dropped_ok}
 use Rattle.tables.specs.Node.{Tabled}
 use Rattle.certifier.specs.Certify.{result_of, certification, InOrder}
 use Rattle.certifier.specs.Certify as certify
-use Rattle.certifier.specs.Judge.{WorthsLeft}
+use Rattle.placer.specs.SlotBytes.{with_marked, idle_bytes, save_bytes}
 use Rattle.placer.specs.Turn.{idles_in, turned_image}
-use Rattle.placer.specs.Settle.{accepts, settled, settled_all, undone}
+use Rattle.placer.specs.Settle.{accepts, settled, settled_all}
 use Rattle.placer.specs.Place.{unplaced, answer_by, image_by, placement_of, Left}
 use Rattle.placer.proofs.ImageTurning.{length_turned}
-use Rattle.placer.proofs.Settling.{certified_turned, accepts_turned, settled_is, undone_all}
+use Rattle.placer.proofs.Marking.{turned_upward, undone_all}
+use Rattle.placer.proofs.Settling.{certified_turned, accepts_turned, settled_is}
 
 accepted_result : (a : Answer) → is_accepted a ≡ true → result_of a ≡ Ok tt
-accepted_result accepted e = refl
-accepted_result (loop n) e = clash (cc)
-accepted_result (over n p) e = clash (cc)
+accepted_result a h1 = grind arith
 
 -- the list that the certifier leaves, where it refuses the image with every idle slot turned
 pub left_refused : (m : Model) (before after last : List ℕ) (old new : List Worth) (a : Answer) (r out : Result (Unit {0}) Refusal)
     → is_accepted a ≡ false → result_of a ≡ r → out ≡ unplaced a
     → after ≡ turned_image (idles_in before) before → certify.Left (graph_of m after) old new r → Left m before last old new out
-left_refused m before after last old new accepted r out fails e f turns list = clash (cc)
-left_refused m before after last old new (loop s) r out fails e f turns list =
-    record { accepted = λ h. clash (cc); dear = λ t p h. clash (cc); others = λ c h ne. list.others (Loop s) (sym e) (λ t p k. clash (cc)) }
-left_refused m before after last old new (over s p) r out fails e f turns list =
-    record {
-      accepted = λ h. clash (cc);
-      dear = λ t q h. subst (λ (image : List ℕ). WorthsLeft worth_kind (graph_of m image) old new) turns (list.dear s p (sym e));
-      others = λ c h ne. let k : c ≡ NoPlacement (unplaceable.OverBudget s p) = cc in absurd (ne s p k);
-    }
+left_refused m before after last old new a r out h1 h2 h3 h4 h5 = grind arith
 
 pub left_accepted : (m : Model) (before after : List ℕ) (old new : List Worth) (r : Result (Unit {0}) Refusal) → r ≡ Ok tt
     → certify.Left (graph_of m after) old new r → Left m before after old new (Ok tt)
-left_accepted m before after old new r e left =
-    record { accepted = λ h. left.accepted e; dear = λ s p h. clash (cc); others = λ b h ne. clash (cc) }
+left_accepted m before after old new r h1 h2 = grind arith
 
 module _ (m : Model) (before : List ℕ) (budget room : ℕ) (order : InOrder before budget room)
-    (marks : List Bool) (marked : Tabled false marks (idles_in before) (slot_count before)) where
+    (marks : List Bool) (table : Tabled false marks (idles_in before) 1024) where
+  marked : Tabled false marks (idles_in before) (slot_count before)
+  marked = grind arith
+
   abbrev g : Graph
   g = graph_of m before
 
@@ -61,8 +50,11 @@ module _ (m : Model) (before : List ℕ) (budget room : ℕ) (order : InOrder be
   abbrev ok : (ℕ → Bool) → Bool
   ok = allowed m.dearest g budget
 
-  module _ (all after : List ℕ) (turns : all ≡ turned_image (idles_in before) before)
+  module _ (all after : List ℕ) (written : all ≡ with_marked marks save_bytes (slot_count before) before)
       (settles : after ≡ settled_all m budget marks all) where
+    turns : all ≡ turned_image (idles_in before) before
+    turns = written ∙ turned_upward before marks marked
+
     tested : accepts m budget all ≡ is_accepted first
     tested = ap (accepts m budget) turns ∙ accepts_turned m before budget room order (idles_in before)
 
@@ -99,14 +91,14 @@ module _ (m : Model) (before : List ℕ) (budget room : ℕ) (order : InOrder be
         go : (a : Answer) → first ≡ a → Answered (Ok tt) after a
         go accepted f = (refl, after_accepted (ap is_accepted f))
         go (loop s) f =
-            let h = certified_after (idles_in before) (after_refused (ap is_accepted f)) ∙ ap result_of f in clash (cc)
+            let h = certified_after (idles_in before) (after_refused (ap is_accepted f)) ∙ ap result_of f in cc
         go (over s p) f =
-            let h = certified_after (idles_in before) (after_refused (ap is_accepted f)) ∙ ap result_of f in clash (cc)
+            let h = certified_after (idles_in before) (after_refused (ap is_accepted f)) ∙ ap result_of f in cc
 
-    undone_after : after ≡ turned_image (idles_in before) before → undone marks (slot_count after) after ≡ before
+    undone_after : after ≡ turned_image (idles_in before) before → with_marked marks idle_bytes (slot_count after) after ≡ before
     undone_after e =
         let n : slot_count after ≡ slot_count before = ap (λ (k : ℕ). k / 8) (ap length e ∙ length_turned (idles_in before) before) in
-        ap (λ (k : ℕ). undone marks k after) n ∙ ap (undone marks (slot_count before)) e ∙ undone_all before marks marked
+        ap (λ (k : ℕ). with_marked marks idle_bytes k after) n ∙ ap (with_marked marks idle_bytes (slot_count before)) e ∙ undone_all before marks marked
 
     pub record AtErr (b : Refusal) (out : List ℕ) : Type 0 where
       pub value : unplaced first ≡ answer_by (placement_of m before budget)
@@ -115,7 +107,7 @@ module _ (m : Model) (before : List ℕ) (budget room : ℕ) (order : InOrder be
       pub refuses : is_accepted first ≡ false
       pub result : result_of first ≡ Err b
 
-    pub at_err : (b : Refusal) (out : List ℕ) → certification m after budget room ≡ Err b → out ≡ undone marks (slot_count after) after → AtErr b out
+    pub at_err : (b : Refusal) (out : List ℕ) → certification m after budget room ≡ Err b → out ≡ with_marked marks idle_bytes (slot_count after) after → AtErr b out
     at_err b out e u =
         record {
           value = (go first refl).0;
@@ -127,12 +119,12 @@ module _ (m : Model) (before : List ℕ) (budget room : ℕ) (order : InOrder be
       where
         refusing : (t : Bool) → is_accepted first ≡ t → is_accepted first ≡ false
         refusing false f = f
-        refusing true f = let h = accepted_after f in clash (cc)
+        refusing true f = let h = accepted_after f in cc
 
         stuck : after ≡ turned_image (idles_in before) before
         stuck = after_refused (refusing (is_accepted first) refl)
 
         go : (a : Answer) → first ≡ a → Answered (unplaced a) out a
-        go accepted f = let h = accepted_after (ap is_accepted f) in clash (cc)
+        go accepted f = let h = accepted_after (ap is_accepted f) in cc
         go (loop s) f = (refl, u ∙ undone_after stuck)
         go (over s p) f = (refl, u ∙ undone_after stuck)

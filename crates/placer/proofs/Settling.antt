@@ -1,10 +1,10 @@
 -- The slots settled one after another are the nodes dropped one after another, and what was turned can be undone.
-use Rattle.std.proofs.Common.{◌≡◌, ℕ, zero, suc, ◌+◌, ◌-◌, ◌<◌, ◌≤◌, Bool, true, false, cond, not, ◌&&◌, eqb, leb, List, get_or, is_ok, sym, refl, ap, ◌∙◌, ⊎_elim, arith}
-use Rattle.std.proofs.lemmas.Bool.{cases_eq, cases_lt, cases_Bool, le-leb, lt-leb, eq-eqb, ne_eqb, and_from, and_left, and_right, not_from_true}
+use Rattle.std.proofs.Common.{◌≡◌, ℕ, zero, suc, ◌+◌, ◌-◌, ◌<◌, ◌≤◌, Bool, true, false, cond, not, ◌&&◌, eqb, List, get_or, is_ok, sym, refl, ap, ◌∙◌, ⊎_elim, arith}
+use Rattle.std.proofs.lemmas.Bool.{cases_Bool, eq-eqb, ne_eqb, and_left, and_right, not_from_true}
 use Rattle.isa.specs.Slot.{slot_count}
 use Rattle.pricing.specs.Model.{Model}
 use Rattle.walks.specs.Graph.{Graph}
-use Rattle.walks.specs.Acceptance.{Answer, accepted, loop, over}
+use Rattle.walks.specs.Acceptance.{Answer}
 use Rattle.walks.specs.Certified.{certified}
 use Rattle.walks.specs.ImageGraph.{graph_of}
 use Rattle.walks.specs.Placing.{without, turned, is_accepted, allowed, dropped}
@@ -14,14 +14,11 @@ use Rattle.certifier.specs.Certify.{result_of, and_then, certification, InOrder}
 use Rattle.certifier.proofs.Admitting.{admitted}
 use Rattle.placer.specs.SlotBytes.{with_bytes, idle_bytes}
 use Rattle.placer.specs.Turn.{idles_in, turned_image}
-use Rattle.placer.specs.Settle.{accepts, settled_at, settled, undone}
-use Rattle.placer.proofs.Idling.{idle_there}
-use Rattle.placer.proofs.ImageTurning.{turned_image_lem, with_idle, turned_same, turned_none}
+use Rattle.placer.specs.Settle.{accepts, settled_at, settled}
+use Rattle.placer.proofs.ImageTurning.{turned_image_lem, with_idle}
 
 ok_result : (a : Answer) → is_ok (result_of a) ≡ is_accepted a
-ok_result accepted = refl
-ok_result (loop n) = refl
-ok_result (over n p) = refl
+ok_result a = grind arith
 
 without_other : (n : ℕ) (P : ℕ → Bool) (k : ℕ) → (k ≡ n → ⊥) → P k ≡ without n P k
 without_other n P k ne = sym (ap (λ (b : Bool). not b && P k) (ne_eqb k n ne))
@@ -67,8 +64,7 @@ module _ (m : Model) (before : List ℕ) (budget room : ℕ) (order : InOrder be
           (and_right (idles_in before n) (without n P n) (without_self n P))
 
       by_test : (b : Bool) → cond b (turned_image (without n P) before) (turned_image P before) ≡ turned_image (cond b (without n P) P) before
-      by_test true = refl
-      by_test false = refl
+      by_test b = grind arith
 
       settled_here : P n ≡ idles_in before n
           → settled_at m budget n (get_or marks n false) (turned_image P before) ≡ turned_image (cond drops (without n P) P) before
@@ -90,8 +86,7 @@ module _ (m : Model) (before : List ℕ) (budget room : ℕ) (order : InOrder be
 
     next_same : (b : Bool) (n : ℕ) (P : ℕ → Bool) → ((k : ℕ) → n ≤ k → P k ≡ idles_in before k) → (k : ℕ) → suc n ≤ k
         → cond b (without n P) P k ≡ idles_in before k
-    next_same true n P same k h = sym (without_other n P k (λ e. omega arith)) ∙ same k (omega arith)
-    next_same false n P same k h = same k (omega arith)
+    next_same b n P h1 k h2 = grind arith
 
     pub settled_is : (k n : ℕ) (P : ℕ → Bool) → n + k ≤ slot_count before → ((j : ℕ) → n ≤ j → P j ≡ idles_in before j)
         → settled m budget marks k n (turned_image P before) ≡ turned_image (dropped (allowed m.dearest g budget) k n P) before
@@ -100,55 +95,6 @@ module _ (m : Model) (before : List ℕ) (budget room : ℕ) (order : InOrder be
         let N = cond (drops n (omega arith) P) (without n P) P in
         ap (settled m budget marks k (suc n)) (settled_here n (omega arith) P (same n (omega arith)))
         ∙ settled_is k (suc n) N (omega arith) (next_same (drops n (omega arith) P) n P same)
-
--- the slots from i on
-abbrev from : ℕ → ℕ → Bool
-from i k = leb i k
-
-module _ (before : List ℕ) (marks : List Bool) (marked : Tabled false marks (idles_in before) (slot_count before)) where
-  from_more : (i k : ℕ) → (k ≡ i → ⊥) → from i k ≡ from (suc i) k
-  from_more i k ne =
-      ⊎_elim (λ (h : k < i). lt-leb i k h ∙ sym (lt-leb (suc i) k (omega arith)))
-      (λ (h : i ≤ k). le-leb i k h ∙ sym (le-leb (suc i) k (omega arith)))
-      (cases_lt k i)
-
-  undone_here : (i : ℕ) → i < slot_count before → (b : Bool) → b ≡ idles_in before i
-      → cond b (with_bytes (turned_image (from i) before) i idle_bytes) (turned_image (from i) before) ≡ turned_image (from (suc i)) before
-  undone_here i h true e =
-      with_idle (from i) (from (suc i)) before i (omega arith) (λ k ne. ap (λ (b : Bool). idles_in before k && b) (from_more i k ne)) (sym e)
-      (and_right (idles_in before i) (from (suc i) i) (lt-leb (suc i) i (omega arith)))
-  undone_here i h false e =
-      turned_same (from i) (from (suc i)) before
-      (λ k.
-      ⊎_elim
-      (λ (same : k ≡ i).
-      let idle : idles_in before k ≡ false = ap (idles_in before) same ∙ sym e in
-      and_left _ (from i k) idle ∙ sym (and_left _ (from (suc i) k) idle))
-      (λ (ne : k ≡ i → ⊥). ap (λ (b : Bool). idles_in before k && b) (from_more i k ne))
-      (cases_eq k i))
-
-  undone_to : (i : ℕ) → i ≤ slot_count before → undone marks i (turned_image (idles_in before) before) ≡ turned_image (from i) before
-  undone_to zero h =
-      turned_same (idles_in before) (from 0) before
-      (λ k.
-      ⊎_elim
-      (λ (e : idles_in before k ≡ true). and_from _ _ e e ∙ sym (and_from (idles_in before k) (from 0 k) e (le-leb 0 k (omega arith))))
-      (λ (e : idles_in before k ≡ false). and_left _ (idles_in before k) e ∙ sym (and_left _ (from 0 k) e))
-      (cases_Bool (idles_in before k)))
-  undone_to (suc i) h =
-      ap (λ (xs : List ℕ). cond (get_or marks i false) (with_bytes xs i idle_bytes) xs) (undone_to i (omega arith))
-      ∙ undone_here i (omega arith) (get_or marks i false) (marked.holds i (omega arith))
-
-  pub undone_all : undone marks (slot_count before) (turned_image (idles_in before) before) ≡ before
-  undone_all =
-      undone_to (slot_count before) (omega arith)
-      ∙ turned_none (from (slot_count before)) before
-      (λ k.
-      ⊎_elim
-      (λ (e : idles_in before k ≡ true).
-      let h = (idle_there before k e).1 in and_right (idles_in before k) (from (slot_count before) k) (lt-leb (slot_count before) k h))
-      (λ (e : idles_in before k ≡ false). and_left _ (from (slot_count before) k) e)
-      (cases_Bool (idles_in before k)))
 
 -- one slot more
 pub settled_more : (m : Model) (budget : ℕ) (marks : List Bool) (count i : ℕ) (here out : List ℕ) → i < count

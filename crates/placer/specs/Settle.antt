@@ -5,8 +5,7 @@
 --     settled_at m budget i marked image     slot i made idle, where it is marked and the image is accepted so
 --     settled m budget marks k n image      the image after k slots from n upward were settled, in turn
 --     settled_all m budget marks image       the image after all its slots were settled, if it was accepted before
---     undone marks k image         the image with each marked slot below k made idle
-use Rattle.std.specs.Prelude.{ℕ, zero, suc, Bool, false, cond, ◌&&◌, List, is_ok, slice_index_or}
+use Rattle.std.specs.Prelude.{ℕ, zero, suc, Bool, false, ◌&&◌, List, is_ok, slice_index_or, if◌then◌else◌}
 use Rattle.isa.specs.Slot.{slot_count}
 use Rattle.pricing.specs.Model.{Model}
 use Rattle.certifier.specs.Certify.{certification}
@@ -17,15 +16,11 @@ module _ (m : Model) (budget : ℕ) where
   accepts image = is_ok (certification m image budget 1024)
 
   abbrev pub settled_at : ℕ → Bool → List ℕ → List ℕ
-  settled_at i marked image = let tried = with_bytes image i idle_bytes in cond (marked && accepts tried) tried image
+  settled_at i marked image = let tried = with_bytes image i idle_bytes in if marked && accepts tried then tried else image
 
   abbrev pub settled : List Bool → ℕ → ℕ → List ℕ → List ℕ
   settled marks zero n image = image
   settled marks (suc k) n image = settled marks k (suc n) (settled_at n (slice_index_or marks n false) image)
 
   abbrev pub settled_all : List Bool → List ℕ → List ℕ
-  settled_all marks image = cond (accepts image) (settled marks (slot_count image) 0 image) image
-
-abbrev pub undone : List Bool → ℕ → List ℕ → List ℕ
-undone marks zero image = image
-undone marks (suc k) image = let before = undone marks k image in cond (slice_index_or marks k false) (with_bytes before k idle_bytes) before
+  settled_all marks image = if accepts image then settled marks (slot_count image) 0 image else image

@@ -1,39 +1,20 @@
 // Placing saves in an image.
-ghost use Rattle.std.specs.Prelude.{◌≡◌, length, Ok, Err};
+ghost use Rattle.std.specs.Prelude.{◌≡◌, length, Err};
 ghost use Rattle.walks.specs.Acceptance.{Answer};
-ghost use Rattle.certifier.specs.Certify.{within_limits, result_of, admission, InOrder};
+ghost use Rattle.certifier.specs.Certify.{result_of, InOrder};
 ghost use Rattle.placer.specs.Place.{unplaced, placement_of, answer_by, image_by, placing, placed_image, Meaning, Left};
 
-use crate::settle::{settle, undo};
-use crate::turn::turn;
-use certifier::certify::certify;
-use isa::lawful::lawful;
+use crate::settle::settle;
+use crate::slot_bytes::{IDLE, SAVE, write_marked};
+use crate::turn::idle_slots;
+use certifier::certify::Certifier;
 use isa::refusal::{Refusal, Unplaceable};
 use paths::worth::Worth;
 use pricing::model::PriceModel;
 
-fn within_limits(budget: u64) -> bool
-    ensures { result ≡ within_limits budget }
-{
-    1 <= budget && budget <= 100_000_000
-}
-
-// The certifier's checks before the walks, in its order.
-fn admit(image: &[u8], budget: u64, room: usize) -> Result<(), Refusal>
-    ensures value { result ≡ admission image.now budget room }
-    ensures order { result ≡ Ok tt → InOrder image.now budget room }
-{
-    if !within_limits(budget) {
-        return Err(Refusal::Budget);
-    }
-    if room < 1024 {
-        return Err(Refusal::WorkingList);
-    }
-    lawful(image)
-}
-
 // The refusal of an image with every idle slot turned, carried by that of the
 // image itself.
+// Stays: it goes from a refusal to a refusal, so no From can say it.
 fn no_placement(refusal: Refusal) -> Refusal
     ensures { (a : Answer) → result_of a ≡ Err refusal → Err result ≡ unplaced a }
 {
@@ -52,42 +33,37 @@ fn no_placement(refusal: Refusal) -> Refusal
 // accepted, and fills the working list for the image that came out.
 fn place_lawful<M: PriceModel>(
     image: &mut [u8],
-    model: &M,
-    budget: u64,
+    by: &Certifier<'_, M>,
     working: &mut [Worth],
 ) -> Result<(), Refusal>
-    requires { InOrder image.old budget (length working.old) }
-    ensures value { result ≡ answer_by (placement_of (M.PriceModel.means model.now) image.old budget) }
-    ensures image { image.new ≡ image_by (placement_of (M.PriceModel.means model.now) image.old budget) image.old }
-    ensures left { Left (M.PriceModel.means model.now) image.old image.new working.old working.new result }
+    requires { InOrder image.old by.now.budget (length working.old) }
+    ensures value { result ≡ answer_by (placement_of (M.PriceModel.means by.now.model.now) image.old by.now.budget) }
+    ensures image { image.new ≡ image_by (placement_of (M.PriceModel.means by.now.model.now) image.old by.now.budget) image.old }
+    ensures left { Left (M.PriceModel.means by.now.model.now) image.old image.new working.old working.new result }
 {
-    let idle = turn(image);
-    settle(image, &idle, model, budget);
-    match certify(image, model, budget, working) {
-        Ok(()) => Ok(()),
-        Err(refusal) => {
-            undo(image, &idle);
-            Err(no_placement(refusal))
-        }
+    let idle = idle_slots(image);
+    write_marked(image, &idle, SAVE);
+    settle(image, &idle, by);
+    if let Err(refusal) = by.certify(image, working) {
+        write_marked(image, &idle, IDLE);
+        return Err(no_placement(refusal));
     }
+    Ok(())
 }
 
-// Turns idle slots into saves so that the image is accepted at a budget, and
-// none that could be left out. Where no choice of them is accepted, it refuses
-// and leaves the image as it was.
+// Turns idle slots into saves so that the certifier accepts the image, and none
+// that could be left out. Where no choice of them is accepted, it refuses and
+// leaves the image as it was.
 pub fn place<M: PriceModel>(
     image: &mut [u8],
-    model: &M,
-    budget: u64,
+    by: &Certifier<'_, M>,
     working: &mut [Worth],
 ) -> Result<(), Refusal>
-    ensures value { result ≡ placing (M.PriceModel.means model.now) image.old budget (length working.old) }
-    ensures image { image.new ≡ placed_image (M.PriceModel.means model.now) image.old budget (length working.old) }
-    ensures meaning { Meaning (M.PriceModel.means model.now) image.old budget (length working.old) image.new result }
-    ensures left { Left (M.PriceModel.means model.now) image.old image.new working.old working.new result }
+    ensures value { result ≡ placing (M.PriceModel.means by.now.model.now) image.old by.now.budget (length working.old) }
+    ensures image { image.new ≡ placed_image (M.PriceModel.means by.now.model.now) image.old by.now.budget (length working.old) }
+    ensures meaning { Meaning (M.PriceModel.means by.now.model.now) image.old by.now.budget (length working.old) image.new result }
+    ensures left { Left (M.PriceModel.means by.now.model.now) image.old image.new working.old working.new result }
 {
-    match admit(image, budget, working.len()) {
-        Ok(()) => place_lawful(image, model, budget, working),
-        Err(refusal) => Err(refusal),
-    }
+    by.admit(image, working.len())?;
+    place_lawful(image, by, working)
 }

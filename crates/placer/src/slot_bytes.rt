@@ -1,6 +1,7 @@
 // The eight bytes of a slot.
 ghost use Rattle.std.specs.Prelude.{◌≡◌, ◌+◌, ◌*◌, ◌≤◌, length};
-ghost use Rattle.placer.specs.SlotBytes.{bytes_at, with_bytes};
+ghost use Rattle.isa.specs.Slot.{slot_count};
+ghost use Rattle.placer.specs.SlotBytes.{with_bytes, with_marked};
 
 // A jump to the next slot.
 pub(crate) const IDLE: [u8; 8] = [0x05, 0, 0, 0, 0, 0, 0, 0];
@@ -8,27 +9,25 @@ pub(crate) const IDLE: [u8; 8] = [0x05, 0, 0, 0, 0, 0, 0, 0];
 // The call of the helper that saves.
 pub(crate) const SAVE: [u8; 8] = [0x85, 0, 0, 0, 1, 0, 0, 0];
 
-pub(crate) fn bytes_at(image: &[u8], at: u16) -> [u8; 8]
-    requires { 8 * at + 8 ≤ length image.now }
-    ensures { result ≡ bytes_at image.now at }
+// Puts other bytes into a slot, and returns the former ones.
+pub(crate) fn replace_slot(image: &mut [u8], at: usize, mut bytes: [u8; 8]) -> [u8; 8]
+    requires { 8 * at + 8 ≤ length image.old }
+    ensures written { image.new ≡ with_bytes image.old at bytes }
+    ensures former { with_bytes image.new at result ≡ image.old }
 {
-    let from = 8 * at as usize;
-    [
-        image[from],
-        image[from + 1],
-        image[from + 2],
-        image[from + 3],
-        image[from + 4],
-        image[from + 5],
-        image[from + 6],
-        image[from + 7],
-    ]
+    image[8 * at..8 * at + 8].swap_with_slice(&mut bytes);
+    bytes
 }
 
-pub(crate) fn write_slot(image: &mut [u8], at: u16, bytes: [u8; 8])
-    requires { 8 * at + 8 ≤ length image.old }
-    ensures { image.new ≡ with_bytes image.old at bytes }
+// Gives these bytes to each marked slot.
+pub(crate) fn write_marked(image: &mut [u8], marks: &[bool; 1024], bytes: [u8; 8])
+    requires { length image.old ≤ 8192 }
+    ensures { image.new ≡ with_marked marks.now bytes (slot_count image.old) image.old }
 {
-    let from = 8 * at as usize;
-    image[from..from + 8].copy_from_slice(&bytes);
+    // Stays: of an image lent to chunks_exact_mut a proof keeps the length alone.
+    for (at, marked) in marks[..image.len() / 8].iter().enumerate() {
+        if *marked {
+            replace_slot(image, at, bytes);
+        }
+    }
 }

@@ -1,5 +1,6 @@
 // Small rounds and the saves that are placed in them. The placements were worked
 // out by a search over the walks that shares nothing with the placer.
+use certifier::certify::Certifier;
 use isa::image::instruction_at;
 use isa::instruction::Role;
 use isa::refusal::Told;
@@ -18,6 +19,7 @@ struct Case {
     carried: Told,
 }
 
+// Stays: the cases are compared with what a refusal tells, which has no none.
 const NONE: Told = Told {
     number: 0,
     slot: 0,
@@ -156,10 +158,7 @@ static CASES: [Case; 10] = [
 ];
 
 fn role_at(image: &[u8], slot: u16) -> Option<Role> {
-    match instruction_at(image, slot) {
-        Some(instruction) => Some(instruction.role()),
-        None => None,
-    }
+    instruction_at(image, slot).map(|instruction| instruction.role())
 }
 
 // The slots that were idle and are saves now are the ones named.
@@ -174,12 +173,11 @@ fn check_saves(rt: &impl Abort, before: &[u8], after: &[u8], saves: &[u16]) {
 fn check_case(rt: &(impl Abort + AllocGlobal), case: &Case) -> Result<(), Fail> {
     let mut working = [Worth { price: 0, slot: 0 }; 1024];
     let mut image = case.image.to_vec(rt.alloc())?;
-    let carried = match place(
-        image.as_mut_slice(),
-        &OperandModel,
-        case.budget,
-        &mut working,
-    ) {
+    let by = Certifier {
+        model: &OperandModel,
+        budget: case.budget,
+    };
+    let carried = match place(image.as_mut_slice(), &by, &mut working) {
         Ok(()) => NONE,
         Err(refusal) => refusal.carried().ok_or("another refusal")?,
     };

@@ -1,5 +1,6 @@
 // Refusals of placing: their order, what they carry, and that they keep the
 // image.
+use certifier::certify::Certifier;
 use isa::refusal::Told;
 use paths::worth::Worth;
 use placer::place::place;
@@ -16,17 +17,14 @@ const ACCEPTED: Told = Told {
 // The number of the answer, with what it carries where it carries something.
 fn placed(image: &mut [u8], budget: u64) -> Told {
     let mut working = [NONE; 1024];
-    match place(image, &OperandModel, budget, working.as_mut_slice()) {
-        Ok(()) => ACCEPTED,
-        Err(refusal) => match refusal.carried() {
-            Some(told) => told,
-            None => Told {
-                number: refusal.number(),
-                slot: refusal.slot(),
-                price: refusal.price(),
-            },
-        },
-    }
+    let by = Certifier {
+        model: &OperandModel,
+        budget,
+    };
+    place(image, &by, &mut working).map_or_else(
+        |refusal| { refusal.carried().unwrap_or(Told::from(refusal)) },
+        |()| ACCEPTED,
+    )
 }
 
 fn told(number: u8, slot: u16, price: u64) -> Told {

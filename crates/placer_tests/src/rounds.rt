@@ -1,4 +1,5 @@
 // Rounds with saves placed: which idle slots become saves.
+use certifier::certify::Certifier;
 use isa::refusal::Refusal;
 use paths::worth::Worth;
 use placer::place::place;
@@ -8,7 +9,11 @@ const NONE: Worth = Worth { price: 0, slot: 0 };
 
 fn placed(image: &mut [u8], budget: u64) -> Result<(), Refusal> {
     let mut working = [NONE; 1024];
-    place(image, &OperandModel, budget, working.as_mut_slice())
+    let by = Certifier {
+        model: &OperandModel,
+        budget,
+    };
+    place(image, &by, &mut working)
 }
 
 // An own save stays, and the idle slot after it becomes one where it has to.

@@ -1,43 +1,20 @@
-use Rattle.std.proofs.Common.{◌≡◌, length, Ok, Err, Result, sym, ap, ◌∙◌}
-use Rattle.isa.specs.declared.refusal.Refusal.{Refusal}
-use Rattle.certifier.specs.Certify.{and_then, admission}
-use Rattle.placer.specs.Place.{placement_of, answer_by, image_by, left_by, placing, placed_image}
-use Rattle.placer.proofs.Meaning.{meaning, left_early}
+-- The answer and the image that is left are the defined ones, and these mean what they say.
+use Rattle.std.proofs.Common.{length, sym, rules}
+use Rattle.std.proofs.lemmas.Result.{err_from_is_err_and}
+use Rattle.placer.proofs.Meaning.{meaning, not_admitted, left_early}
 use Rattle.placer.proofs.place.place.Goals as goal
 
-pub returns-in-Ok : goal.returns-in-Ok
-returns-in-Ok g c =
-    let m = g.M.PriceModel.means c.args.model.now in
-    let before = c.args.image.now in
-    let budget = c.args.budget in
-    let room = length c.args.working.now in
-    let p = placement_of m before budget in
-    let passes : Ok tt ≡ admission before budget room = sym c.in-Ok.is ∙ c.admit.ensures.value in
-    let value : c.place_lawful.result ≡ placing m before budget room =
-    c.place_lawful.ensures.value ∙ ap (λ (a : Result (Unit {0}) Refusal). and_then a (answer_by p)) passes in
-    let image : c.place_lawful.new.image ≡ placed_image m before budget room =
-    c.place_lawful.ensures.image ∙ ap (λ (a : Result (Unit {0}) Refusal). left_by a (image_by p before) before) passes in
-    record {
-      value = value;
-      image = image;
-      meaning = meaning m before budget room c.place_lawful.new.image c.place_lawful.result value image;
-      left = c.place_lawful.ensures.left;
-    }
+pub returns-in_err-admit-clause-meaning : goal.returns-in_err-admit-clause-meaning
+returns-in_err-admit-clause-meaning g c =
+    let out = err_from_is_err_and c.from_residual.result c.from_residual.ensures.1 in
+    rw (out.1, out.2) (not_admitted (g.M.PriceModel.means c.args.by.now.model.now) c.args.image.now c.args.by.now.budget (length c.args.working.now) c.in_err-admit.field-0.0 (sym c.in_err-admit.ensures.value))
 
-pub returns-in-Err : goal.returns-in-Err
-returns-in-Err g c =
-    let m = g.M.PriceModel.means c.args.model.now in
-    let before = c.args.image.now in
-    let budget = c.args.budget in
-    let room = length c.args.working.now in
-    let p = placement_of m before budget in
-    let b = c.in-Err.refusal in
-    let fails : Err b ≡ admission before budget room = sym c.in-Err.is ∙ c.admit.ensures.value in
-    let value : Err b ≡ placing m before budget room = ap (λ (a : Result (Unit {0}) Refusal). and_then a (answer_by p)) fails in
-    let image : before ≡ placed_image m before budget room = ap (λ (a : Result (Unit {0}) Refusal). left_by a (image_by p before) before) fails in
-    record {
-      value = value;
-      image = image;
-      meaning = meaning m before budget room before (Err b) value image;
-      left = left_early m before budget room c.args.working.now b (sym fails);
-    }
+pub returns-in_err-admit-clause-left : goal.returns-in_err-admit-clause-left
+returns-in_err-admit-clause-left g c =
+    let out = err_from_is_err_and c.from_residual.result c.from_residual.ensures.1 in
+    rw (out.1, out.2) (left_early (g.M.PriceModel.means c.args.by.now.model.now) c.args.image.now c.args.by.now.budget (length c.args.working.now) c.args.working.now c.in_err-admit.field-0.0 (sym c.in_err-admit.ensures.value))
+
+pub returns-clause-meaning : goal.returns-clause-meaning
+returns-clause-meaning g c =
+    meaning (g.M.PriceModel.means c.args.by.now.model.now) c.args.image.now c.args.by.now.budget (length c.args.working.now)
+    c.place_lawful.new.image c.place_lawful.result (search rules) (search rules)

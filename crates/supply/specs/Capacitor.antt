@@ -9,14 +9,14 @@
 --     filled k             the condition after a charge: full
 --     Drew x n answer y    a draw of n units answers so, and makes y of x
 --     four_in k            the four numbers that a capacitor in condition k means
-use Rattle.std.specs.Prelude.{◌≡◌, ℕ, ◌+◌, ◌-◌, ◌%◌, ◌^◌, Bool, cond, Ok, Err, Result, nat_le}
+use Rattle.std.specs.Prelude.{◌≡◌, ℕ, ◌+◌, ◌-◌, ◌%◌, ◌^◌, Bool, if◌then◌else◌, Ok, Err, Result, nat_le}
 use Rattle.isa.specs.declared.refusal.Refusal.{Refusal}
 use Rattle.isa.specs.declared.refusal.Refusal.TheVariants.{SupplyNumbers}
 use Rattle.supply.specs.declared.answer.Answer.{Answer}
 use Rattle.supply.specs.declared.answer.Answer.TheVariants.{Yes, No}
 use Rattle.supply.specs.declared.capacitor.Capacitor.{Capacitor}
-use Rattle.supply.specs.declared.ratings.Ratings.{Ratings}
-use Rattle.supply.specs.Ratings.{Within, floor_of, full_of, energy_of, units_in, budget_of}
+use Rattle.supply.specs.Rated.{rated}
+use Rattle.supply.specs.Ratings.{Ratings, Within, floor_of, full_of, energy_of, units_in, budget_of}
 use Rattle.supply.specs.Supply.{Four}
 
 pub record Condition : Type 0 where
@@ -26,7 +26,7 @@ pub record Condition : Type 0 where
   pub charges : ℕ
 
 abbrev pub condition_of : Capacitor → Condition
-condition_of x = record { ratings = x.ratings; energy = x.energy; asked = x.asked; charges = x.charges }
+condition_of x = record { ratings = rated x.ratings; energy = x.energy; asked = x.asked; charges = x.charges }
 
 abbrev pub fresh : Ratings → Condition
 fresh r = record { ratings = r; energy = floor_of r; asked = 0; charges = 0 }
@@ -40,13 +40,13 @@ abbrev pub suffices : Condition → ℕ → Bool
 suffices k n = nat_le (floor_of k.ratings + energy_of k.ratings n) k.energy
 
 abbrev pub answer_to : Condition → ℕ → Answer
-answer_to k n = cond (suffices k n) Yes No
+answer_to k n = if suffices k n then Yes else No
 
 abbrev pub drawn : Condition → ℕ → Condition
 drawn k n =
     record {
       ratings = k.ratings;
-      energy = cond (suffices k n) (k.energy - energy_of k.ratings n) (floor_of k.ratings);
+      energy = if suffices k n then k.energy - energy_of k.ratings n else floor_of k.ratings;
       asked = (k.asked + n) % 2 ^ 64;
       charges = k.charges;
     }

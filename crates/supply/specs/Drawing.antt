@@ -31,5 +31,5 @@ pub keeps_meaning : (x y : Capacitor) (n : ℕ) (a : Answer) → Drew x n a y �
 keeps_meaning x y n a d =
     let k : Condition = condition_of x in
     let said : Drawn (four_in k) n a (four_in (drawn k n)) =
-    subst (λ (b : Answer). Drawn (four_in k) n b (four_in (drawn k n))) (sym d.answers) (drawn_well k n x.some_unit x.above) in
+    subst (λ (b : Answer). Drawn (four_in k) n b (four_in (drawn k n))) (sym d.answers) (drawn_well k n x.ratings.within.some_unit x.above) in
     subst (λ (m : Condition). Drawn (four_in k) n a (four_in m)) (sym d.leaves) said

@@ -9,7 +9,12 @@
 --     units_in r e            the whole units that energy e has above the floor
 --     budget_of r             the units in a full one
 use Rattle.std.specs.Prelude.{ℕ, ◌-◌, ◌*◌, ◌/◌, ◌<◌, ◌≤◌}
-use Rattle.supply.specs.declared.ratings.Ratings.{Ratings}
+
+pub record Ratings : Type 0 where
+  pub microfarads : ℕ
+  pub top : ℕ
+  pub bottom : ℕ
+  pub unit : ℕ
 
 abbrev pub ratings_of : ℕ → ℕ → ℕ → ℕ → Ratings
 ratings_of c top bottom unit = record { microfarads = c; top = top; bottom = bottom; unit = unit }

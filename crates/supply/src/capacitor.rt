@@ -1,6 +1,7 @@
 // A capacitor that works between two voltages.
-ghost use Rattle.std.specs.Prelude.{◌≡◌, ◌<◌, ◌≤◌};
+ghost use Rattle.std.specs.Prelude.{◌≡◌, ◌≤◌};
 ghost use Rattle.supply.specs.Ratings.{floor_of, full_of};
+ghost use Rattle.supply.specs.Rated.{rated};
 
 use crate::ratings::Ratings;
 
@@ -15,14 +16,8 @@ pub struct Capacitor {
     energy: u64,
     asked: u64,
     charges: u64,
-    ghost some_capacity: { 1 ≤ ratings.microfarads },
-    ghost most_capacity: { ratings.microfarads ≤ 100000 },
-    ghost apart: { ratings.bottom < ratings.top },
-    ghost most_voltage: { ratings.top ≤ 10000 },
-    ghost some_unit: { 1 ≤ ratings.unit },
-    ghost most_unit: { ratings.unit ≤ 1000000 },
-    ghost above: { floor_of ratings ≤ energy },
-    ghost below: { energy ≤ full_of ratings },
+    ghost above: { floor_of (rated ratings) ≤ energy },
+    ghost below: { energy ≤ full_of (rated ratings) },
 }
 
 impl Capacitor {

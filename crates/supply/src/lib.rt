@@ -4,5 +4,5 @@
 pub mod answer;
 pub mod capacitor;
 pub mod mains;
-mod ratings;
+pub mod ratings;
 pub mod supply;

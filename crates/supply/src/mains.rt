@@ -7,6 +7,7 @@ ghost use Rattle.std.proofs.Common.{rules};
 use crate::answer::Answer;
 use crate::supply::Supply;
 
+// Stays: a struct of the two counts, for a capacitor too, would be longer than the two lines that it saves.
 #[derive(Drop)]
 pub struct Mains {
     asked: u64,

@@ -1,66 +1,74 @@
 // What a capacitor is rated at, and the energies that follow from it.
-ghost use Rattle.std.specs.Prelude.{◌≡◌, ◌≤◌, true, false};
-ghost use Rattle.supply.specs.Ratings.{Within, energy_at, floor_of, full_of, energy_of, units_in};
+ghost use Rattle.std.specs.Prelude.{◌≡◌, ◌≤◌};
+ghost use Rattle.supply.specs.Ratings.{ratings_of, Within, energy_at, floor_of, full_of, energy_of, units_in};
+
+use isa::refusal::Refusal;
 
 #[derive(Clone, Copy)]
 pub struct Ratings {
-    pub(crate) microfarads: u32,
+    microfarads: u32,
     // the voltages between which it works, in millivolts
-    pub(crate) top: u32,
-    pub(crate) bottom: u32,
+    top: u32,
+    bottom: u32,
     // the energy of a unit of charge, in picojoules
-    pub(crate) unit: u32,
+    unit: u32,
+    ghost within: { Within (ratings_of microfarads top bottom unit) },
 }
 
 impl Ratings {
-    pub(crate) fn within_limits(self) -> bool
-        ensures within { result ≡ true → Within self }
-        ensures outside { result ≡ false → Within self → ⊥ }
+    ghost use Rattle.supply.specs.Rated.{rated, Rated};
+
+    // Microfarads, then top and bottom in millivolts, and the energy of a unit
+    // in picojoules.
+    pub fn new(microfarads: u32, top: u32, bottom: u32, unit: u32) -> Result<Ratings, Refusal>
+        ensures { Rated (ratings_of microfarads top bottom unit) result }
     {
-        1 <= self.microfarads
-            && self.microfarads <= 100_000
-            && self.bottom < self.top
-            && self.top <= 10_000
-            && 1 <= self.unit
-            && self.unit <= 1_000_000
+        let allowed = (1..=100_000).contains(&microfarads)
+            && bottom < top
+            && top <= 10_000
+            && (1..=1_000_000).contains(&unit);
+        if !allowed {
+            return Err(Refusal::SupplyNumbers);
+        }
+        Ok(Ratings {
+            microfarads,
+            top,
+            bottom,
+            unit,
+        })
     }
 
     // Microfarads times millivolts squared are twice the picojoules.
     fn energy_at(self, millivolts: u32) -> u64
-        requires within { Within self }
-        requires most { millivolts ≤ 10000 }
-        ensures { result ≡ energy_at self millivolts }
+        requires { millivolts ≤ 10000 }
+        ensures { result ≡ energy_at (rated self) millivolts }
     {
         let volts = millivolts as u64;
         self.microfarads as u64 * (volts * volts)
     }
 
     pub(crate) fn floor(self) -> u64
-        requires { Within self }
-        ensures { result ≡ floor_of self }
+        ensures { result ≡ floor_of (rated self) }
     {
         self.energy_at(self.bottom)
     }
 
     pub(crate) fn full(self) -> u64
-        requires { Within self }
-        ensures { result ≡ full_of self }
+        ensures { result ≡ full_of (rated self) }
     {
         self.energy_at(self.top)
     }
 
     pub(crate) fn energy_of(self, units: u32) -> u64
-        requires { Within self }
-        ensures { result ≡ energy_of self units }
+        ensures { result ≡ energy_of (rated self) units }
     {
         units as u64 * (2 * self.unit as u64)
     }
 
     // The whole units that an energy has above the floor.
     pub(crate) fn units_in(self, energy: u64) -> u64
-        requires within { Within self }
-        requires above { floor_of self ≤ energy }
-        ensures { result ≡ units_in self energy }
+        requires { floor_of (rated self) ≤ energy }
+        ensures { result ≡ units_in (rated self) energy }
     {
         (energy - self.floor()) / (2 * self.unit as u64)
     }

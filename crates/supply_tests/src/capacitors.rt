@@ -141,16 +141,13 @@ static LARGEST_STEPS: [Step; 2] = [
 ];
 
 fn run(rt: &impl Abort, case: Case, steps: &[Step]) -> Result<(), Fail> {
-    match Capacitor::new(case.microfarads, case.top, case.bottom, case.unit) {
-        Ok(supply) => {
-            let mut supply = supply;
-            follow(rt, &mut supply, steps)?;
-            assert_eq!(rt; supply.budget(), case.budget);
-            assert_eq!(rt; supply.energy(), case.energy);
-            Ok(())
-        }
-        Err(refusal) => Err(Fail::new(refusal.number())),
-    }
+    let mut supply = Capacitor::new(case.microfarads, case.top, case.bottom, case.unit).map_err(
+        |refusal| Fail::new(refusal.number()),
+    )?;
+    follow(rt, &mut supply, steps)?;
+    assert_eq!(rt; supply.budget(), case.budget);
+    assert_eq!(rt; supply.energy(), case.energy);
+    Ok(())
 }
 
 #[test]

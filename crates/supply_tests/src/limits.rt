@@ -6,8 +6,8 @@ struct Case {
     top: u32,
     bottom: u32,
     unit: u32,
-    // the number of the refusal, 0 where there is none
-    refused: u8,
+    // the number of the refusal
+    refused: Option<u8>,
 }
 
 static CASES: [Case; 14] = [
@@ -16,106 +16,105 @@ static CASES: [Case; 14] = [
         top: 1,
         bottom: 0,
         unit: 1,
-        refused: 0,
+        refused: None,
     },
     Case {
         microfarads: 100_000,
         top: 10_000,
         bottom: 9_999,
         unit: 1_000_000,
-        refused: 0,
+        refused: None,
     },
     Case {
         microfarads: 0,
         top: 3_000,
         bottom: 2_000,
         unit: 1,
-        refused: 13,
+        refused: Some(13),
     },
     Case {
         microfarads: 100_001,
         top: 3_000,
         bottom: 2_000,
         unit: 1,
-        refused: 13,
+        refused: Some(13),
     },
     Case {
         microfarads: 1,
         top: 2_000,
         bottom: 1_999,
         unit: 1,
-        refused: 0,
+        refused: None,
     },
     Case {
         microfarads: 1,
         top: 2_000,
         bottom: 2_000,
         unit: 1,
-        refused: 13,
+        refused: Some(13),
     },
     Case {
         microfarads: 1,
         top: 2_000,
         bottom: 2_001,
         unit: 1,
-        refused: 13,
+        refused: Some(13),
     },
     Case {
         microfarads: 1,
         top: 0,
         bottom: 0,
         unit: 1,
-        refused: 13,
+        refused: Some(13),
     },
     Case {
         microfarads: 1,
         top: 10_001,
         bottom: 2_000,
         unit: 1,
-        refused: 13,
+        refused: Some(13),
     },
     Case {
         microfarads: 1,
         top: 3_000,
         bottom: 2_000,
         unit: 0,
-        refused: 13,
+        refused: Some(13),
     },
     Case {
         microfarads: 1,
         top: 3_000,
         bottom: 2_000,
         unit: 1_000_001,
-        refused: 13,
+        refused: Some(13),
     },
     Case {
         microfarads: 4_294_967_295,
         top: 4_294_967_295,
         bottom: 4_294_967_294,
         unit: 4_294_967_295,
-        refused: 13,
+        refused: Some(13),
     },
     Case {
         microfarads: 100_000,
         top: 10_000,
         bottom: 0,
         unit: 1,
-        refused: 0,
+        refused: None,
     },
     Case {
         microfarads: 0,
         top: 0,
         bottom: 0,
         unit: 0,
-        refused: 13,
+        refused: Some(13),
     },
 ];
 
-fn refusal(case: &Case) -> u8 {
-    match Capacitor::new(case.microfarads, case.top, case.bottom, case.unit) {
-        Ok(_) => 0,
-        Err(refusal) => refusal.number(),
-    }
+fn refusal(case: &Case) -> Option<u8> {
+    Capacitor::new(case.microfarads, case.top, case.bottom, case.unit)
+        .err()
+        .map(|refusal| refusal.number())
 }
 
 #[test]

@@ -1,7 +1,8 @@
 // A capacitor as a supply.
 ghost use Rattle.std.specs.Prelude.{◌≡◌};
 ghost use Rattle.supply.specs.Ratings.{ratings_of};
-ghost use Rattle.supply.specs.Capacitor.{condition_of, Made, Drew, filled, four_in};
+ghost use Rattle.supply.specs.Rated.{rated};
+ghost use Rattle.supply.specs.Capacitor.{condition_of, fresh, Made, Drew, filled, four_in};
 ghost use Rattle.supply.specs.Drawing.{keeps_meaning};
 ghost use Rattle.std.proofs.Common.{rules};
 
@@ -12,26 +13,24 @@ use crate::supply::Supply;
 use isa::refusal::Refusal;
 
 impl Capacitor {
-    // A capacitor at its bottom voltage: microfarads, then top and bottom in
-    // millivolts, and the energy of a unit in picojoules.
-    pub fn new(microfarads: u32, top: u32, bottom: u32, unit: u32) -> Result<Capacitor, Refusal>
-        ensures { Made (ratings_of microfarads top bottom unit) result }
+    // A capacitor at its bottom voltage.
+    pub fn at_bottom(ratings: Ratings) -> Capacitor
+        ensures { condition_of result ≡ fresh (rated ratings) }
     {
-        let ratings = Ratings {
-            microfarads,
-            top,
-            bottom,
-            unit,
-        };
-        if !ratings.within_limits() {
-            return Err(Refusal::SupplyNumbers);
-        }
-        Ok(Capacitor {
+        Capacitor {
             ratings,
             energy: ratings.floor(),
             asked: 0,
             charges: 0,
-        })
+        }
+    }
+
+    // The same at ratings not yet made: microfarads, then top and bottom in
+    // millivolts, and the energy of a unit in picojoules.
+    pub fn new(microfarads: u32, top: u32, bottom: u32, unit: u32) -> Result<Capacitor, Refusal>
+        ensures { Made (ratings_of microfarads top bottom unit) result }
+    {
+        Ratings::new(microfarads, top, bottom, unit).map(Capacitor::at_bottom)
     }
 }
 

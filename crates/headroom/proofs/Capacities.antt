@@ -1,66 +1,45 @@
 -- A quotient rounded up is the least number whose product reaches another, and so the least capacity that holds a budget.
-use Rattle.std.proofs.Common.{ℕ, ◌+◌, ◌-◌, ◌*◌, ◌/◌, ◌<◌, ◌≤◌, min, ◌↔◌, List, Some, None, Ok, Option, lt_of_le_of_lt, div-lt_iff_lt-mul, mul-le-mul_left, mul-lt-mul_of_pos_right, mul-pos, le-div_iff_mul-le, arith}
+use Rattle.std.proofs.Common.{ℕ, ◌-◌, ◌*◌, ◌<◌, ◌≤◌, ◌↔◌, Some, None, Option, is_some, leb, IfSome, ◌≡◌, sym, le-div_iff_mul-le, arith}
 use native.Mathlib.Nat.{mul-sub}
-use Rattle.pricing.specs.Model.{Model}
+use Rattle.std.proofs.lemmas.Bool.{leb-true, leb-false}
+use Rattle.std.specs.Int.{div_ceil}
 use Rattle.supply.specs.Ratings.{Within, budget_of}
-use Rattle.headroom.specs.Budget.{most_budget, LeastBudget}
-use Rattle.headroom.specs.Capacity.{rated, Enough, Fits, CapacityTold}
-
-pub some_product : (b unit : ℕ) → 1 ≤ b → 1 ≤ unit → 1 ≤ b * (2 * unit)
-some_product b unit h k = mul-pos h (let two : 0 < 2 * unit = omega arith in two)
-
-pub squares_apart : (bottom top : ℕ) → bottom < top → bottom * bottom < top * top
-squares_apart bottom top h =
-    lt_of_le_of_lt (mul-le-mul_left bottom (let le : bottom ≤ top = omega arith in le)) (mul-lt-mul_of_pos_right h (let some : 0 < top = omega arith in some))
+use Rattle.headroom.specs.declared.capacity.Voltages.{Voltages}
+use Rattle.headroom.specs.Capacity.{rated, Enough}
 
 -- c is at least the quotient rounded up exactly when c times the divisor reaches n
-pub reaches : (n each c : ℕ) → 0 < each → 0 < n → ((n - 1) / each + 1 ≤ c) ↔ (n ≤ c * each)
-reaches n each c h k = (
-  λ p. let q : (n - 1) / each < c = omega arith in let r : n - 1 < c * each = (div-lt_iff_lt-mul h).0 q in omega arith,
-  λ p. let r : n - 1 < c * each = omega arith in let q : (n - 1) / each < c = (div-lt_iff_lt-mul h).1 r in omega arith,
-)
+reaches : (n each c : ℕ) → 0 < each → (div_ceil n each ≤ c) ↔ (n ≤ c * each)
+reaches n each c some = grind arith
 
-module _ (top bottom unit : ℕ) where
+module _ (v : Voltages) where
   abbrev each : ℕ
-  each = top * top - bottom * bottom
+  each = v.top * v.top - v.bottom * v.bottom
 
   -- a capacitor's budget reaches b exactly when its energy does
-  holds : (b c : ℕ) → 0 < unit → (b ≤ budget_of (rated top bottom unit c)) ↔ (b * (2 * unit) ≤ c * each)
+  holds : (b c : ℕ) → 0 < v.unit → (b ≤ budget_of (rated v c)) ↔ (b * (2 * v.unit) ≤ c * each)
   holds b c h =
-      let e = mul-sub c (top * top) (bottom * bottom) in
-      let q = le-div_iff_mul-le {k = 2 * unit} {x = b} {y = c * (top * top) - c * (bottom * bottom)} (omega arith) in
+      let e = mul-sub c (v.top * v.top) (v.bottom * v.bottom) in
+      let q = le-div_iff_mul-le {k = 2 * v.unit} {x = b} {y = c * (v.top * v.top) - c * (v.bottom * v.bottom)} (omega arith) in
       (λ p. let r = q.0 p in omega (arith, e), λ p. q.1 (omega (arith, e)))
 
-  pub from_least : (b : ℕ) → 0 < unit → 0 < each → 0 < b * (2 * unit) → (c : ℕ)
-      → (((b * (2 * unit) - 1) / each + 1) ≤ c) ↔ (b ≤ budget_of (rated top bottom unit c))
-  from_least b h k some c =
-      let r = reaches (b * (2 * unit)) each c k some in
-      let q = holds b c h in
-      (λ p. q.1 (r.0 p), λ p. r.1 (q.0 p))
+  pub enough_by : (b : ℕ) → 1 ≤ b → Within (rated v 1) → (c : ℕ) → c ≡ div_ceil (b * (2 * v.unit)) each
+      → (o : Option ℕ) → is_some o ≡ leb c 100000 → IfSome o (λ r. r ≡ c) → Enough v b o
+  enough_by b some w c e o told same = go o told same
+    where
+      apart : 0 < each
+      apart = let h = w.apart in grind arith
 
-  -- the limits but for the capacity are the same at every capacity
-  pub at_capacity : (c d : ℕ) → Within (rated top bottom unit c) → 1 ≤ d → d ≤ 100000 → Within (rated top bottom unit d)
-  at_capacity c d w some most =
-      record { some_capacity = some; most_capacity = most; apart = w.apart; most_voltage = w.most_voltage; some_unit = w.some_unit; most_unit = w.most_unit }
+      from : (d : ℕ) → (c ≤ d) ↔ (b ≤ budget_of (rated v d))
+      from d =
+          let reached = reaches (b * (2 * v.unit)) each d apart in
+          let held = holds b d w.some_unit in
+          rw e (λ p. held.1 (reached.0 p), λ p. reached.1 (held.0 p))
 
-  module _ (m : Model) (image : List ℕ) (room b : ℕ) (least : LeastBudget m image room b) where
-    abbrev charge : ℕ → ℕ
-    charge d = min (budget_of (rated top bottom unit d)) most_budget
-
-    -- whatever a capacitor that fits holds is the least budget or more
-    enough : (d : ℕ) → Fits top bottom unit m image room d → b ≤ charge d
-    enough d f = let no : charge d < b → ⊥ = λ h. least.refused (charge d) h f.accepted in omega (arith, no)
-
-    pub told : Within (rated top bottom unit 1) → (o : Option ℕ) → Enough top bottom unit b o → CapacityTold top bottom unit m image room (Ok o)
-    told w (Some c) e =
-        record {
-          most = e.most;
-          fits =
-              λ d h k.
-              let some = e.some in
-              let held = (e.from d).0 h in
-              let most = least.most in
-              record { within = at_capacity 1 d w (omega arith) k; accepted = least.accepted (charge d) (omega arith) (omega arith) };
-          less = λ d h f. let k = enough d f in let from : c ≤ d = (e.from d).1 (omega arith) in omega arith;
-        }
-    told w None e = λ d f. let k = enough d f in let h = e d f.within.most_capacity in omega arith
+      go : (o : Option ℕ) → is_some o ≡ leb c 100000 → IfSome o (λ r. r ≡ c) → Enough v b o
+      go (Some r) told same =
+          record {
+            some = let no : c < 1 → ⊥ = λ h. let k = (from 0).0 (omega arith) in omega arith in omega (arith, no, same);
+            most = let h = leb-true c 100000 (sym told) in omega (arith, same);
+            from = rw same from;
+          }
+      go None told same = λ d most. let h = leb-false c 100000 (sym told) in let no : b ≤ budget_of (rated v d) → ⊥ = λ p. let q = (from d).1 p in omega arith in omega (arith, no)

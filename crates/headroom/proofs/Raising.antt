@@ -1,10 +1,9 @@
 -- What is accepted at a budget is accepted at a larger one, and a refusal over budget tells a price below which nothing is.
-use Rattle.std.proofs.Common.{◌≡◌, ℕ, ◌<◌, ◌≤◌, Bool, cond, List, ◌∷◌, Err, Result, refl, ap, lt_of_lt_of_le, lt_of_le_of_lt, arith}
+use Rattle.std.proofs.Common.{◌≡◌, ℕ, ◌<◌, ◌≤◌, List, ◌∷◌, Some, None, Ok, Err, Option, Result, MatchOption, IsSomeAnd, sym, refl, ap, lt_of_lt_of_le, lt_of_le_of_lt, arith}
 use mathlib.Core.Path.{subst⁻¹}
-use Rattle.std.proofs.lemmas.Bool.{le-leb}
+use Rattle.std.specs.Result.{result_err}
 use Rattle.isa.specs.declared.refusal.Refusal.{Refusal}
-use Rattle.isa.specs.declared.refusal.Refusal.TheVariants.{Budget, OverBudget, WorkingList}
-use Rattle.isa.specs.Lawful.{lawfulness}
+use Rattle.isa.specs.declared.refusal.Refusal.TheVariants.{OverBudget}
 use Rattle.isa.specs.Refusal.{told_of}
 use Rattle.pricing.specs.Model.{Model}
 use Rattle.walks.specs.Graph.{Graph}
@@ -12,8 +11,7 @@ use Rattle.walks.specs.Walk.{walk_price}
 use Rattle.walks.specs.Acceptance.{Accepted, TooDear, Answer, accepted, loop, over}
 use Rattle.walks.specs.Certified.{certified}
 use Rattle.walks.specs.ImageGraph.{graph_of}
-use Rattle.walks.proofs.Clash.{clash}
-use Rattle.certifier.specs.Certify.{within_limits, result_of, and_then, certification, InOrder, Meaning}
+use Rattle.certifier.specs.Certify.{result_of, and_then, certification, InOrder, Meaning}
 use Rattle.certifier.proofs.Admitting.{admitted}
 use Rattle.certifier.proofs.Certifying.{meaning}
 use Rattle.headroom.specs.Budget.{most_budget, AcceptedAt, NoBudget, Dearer}
@@ -37,18 +35,6 @@ module _ (m : Model) (image : List ℕ) where
       let some : 1 ≤ b = q.0.some in
       (means c room).accepted.1 (order_at b c room q.0 (omega arith) k, pays_more b c h q.1)
 
-  -- nothing is accepted below 1
-  pub none_at_zero : (room c : ℕ) → c < 1 → AcceptedAt m image room c → ⊥
-  none_at_zero room c h e = let some : 1 ≤ c = ((means c room).accepted.0 e).0.some in omega arith
-
-  -- the answer is the same in every list that is long enough
-  room_same : (b room : ℕ) → 1024 ≤ room → certification m image b room ≡ certification m image b 1024
-  room_same b room h =
-      ap (λ (x : Bool). and_then (cond (within_limits b) (cond x (lawfulness image) (Err WorkingList)) (Err Budget)) (result_of (certified g b))) (le-leb 1024 room h)
-
-  pub roomy : (room : ℕ) → AcceptedAt m image room most_budget → (b : ℕ) → certification m image b room ≡ certification m image b 1024
-  roomy room e b = room_same b room ((means most_budget room).accepted.0 e).0.roomy
-
   pub never : (room : ℕ) (r : Refusal) → certification m image most_budget room ≡ Err r → NoBudget m image room r
   never room r e =
       record {
@@ -57,7 +43,7 @@ module _ (m : Model) (image : List ℕ) where
             λ c a.
             let most : c ≤ most_budget = ((means c room).accepted.0 a).0.most in
             let top = accepted_more c most_budget room a most (omega arith) in
-            clash (cc);
+            cc;
       }
 
   module _ (b : ℕ) (enough : AcceptedAt m image 1024 most_budget) where
@@ -82,12 +68,20 @@ module _ (m : Model) (image : List ℕ) where
       of_walks_lem = ap (λ (x : Result (Unit {0}) Refusal). and_then x (result_of (certified g b))) ((admitted image b 1024).1 (order_at most_budget b 1024 top.0 some most))
 
       -- with enough charge at the largest budget, a refusal is over budget
-      pub dearer : (r : Refusal) → Err r ≡ certification m image b 1024 → Dearer m image 1024 b (told_of r).price
+      dearer : (r : Refusal) → Err r ≡ certification m image b 1024 → Dearer m image 1024 b (told_of r).price
       dearer r e = go (certified g b) of_walks_lem
         where
           go : (a : Answer) → certification m image b 1024 ≡ result_of a → Dearer m image 1024 b (told_of r).price
-          go accepted p = clash (cc)
+          go accepted p = cc
           go (loop s) p = absurd (top.1.unlooped s (((means b 1024).looping s).0 p).1.has)
           go (over s q) p =
               let same : r ≡ OverBudget s q = cc in
               subst⁻¹ (λ (x : Refusal). Dearer m image 1024 b (told_of x).price) same (from_dear s q (((means b 1024).dear s q).0 p).1)
+
+      -- what is over budget by an answer, as its refusal tells
+      pub beyond_by : (r : Result (Unit {0}) Refusal) → r ≡ certification m image b 1024 → (o : Option ℕ)
+          → MatchOption (result_err r) (o ≡ None) (λ x. IsSomeAnd o (λ p. p ≡ (told_of x).price))
+          → MatchOption o (AcceptedAt m image 1024 b) (Dearer m image 1024 b)
+      beyond_by (Ok u) e o told = rw told (sym e)
+      beyond_by (Err x) e (Some p) told = rw told (dearer x e)
+      beyond_by (Err x) e None told = absurd told

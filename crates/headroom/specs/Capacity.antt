@@ -1,9 +1,9 @@
 -- The smallest capacitor that a round fits. Assumes nothing.
 --     m, image, room            a price model, an image, and the length of the working list
---     top, bottom, unit         the voltages of a capacitor in millivolts, and the energy of a unit in picojoules
---     rated c                   such a capacitor of c microfarads
---     Enough budget o           o is the least capacity whose budget is as large as this one, or none within the limits is
---     Fits c                    a capacitor of c microfarads is within the limits, and the image is accepted at its budget
+--     v                         the voltages of a capacitor in millivolts, and the energy of a unit in picojoules
+--     rated v c                 such a capacitor of c microfarads
+--     Enough v budget o         o is the least capacity whose budget is as large as this one, or none within the limits is
+--     Fits v m image room c         a capacitor of c microfarads is within the limits, and the image is accepted at its budget
 --                               (at the largest that the certifier takes, where its budget is larger)
 --     LeastCapacity c           every capacity from c on fits, up to the largest, and none below c
 --     CapacityRefused r         why nothing is told: the other numbers are outside their limits, or no budget is accepted
@@ -12,13 +12,13 @@ use Rattle.std.specs.Prelude.{ℕ, ◌<◌, ◌≤◌, min, ◌↔◌, List, Som
 use Rattle.isa.specs.declared.refusal.Refusal.{Refusal}
 use Rattle.isa.specs.declared.refusal.Refusal.TheVariants.{SupplyNumbers}
 use Rattle.pricing.specs.Model.{Model}
-use Rattle.supply.specs.declared.ratings.Ratings.{Ratings}
-use Rattle.supply.specs.Ratings.{ratings_of, Within, budget_of}
+use Rattle.supply.specs.Ratings.{Ratings, ratings_of, Within, budget_of}
+use Rattle.headroom.specs.declared.capacity.Voltages.{Voltages}
 use Rattle.headroom.specs.Budget.{most_budget, AcceptedAt, NoBudget}
 
-module _ (top bottom unit : ℕ) where
+module _ (v : Voltages) where
   abbrev pub rated : ℕ → Ratings
-  rated c = ratings_of c top bottom unit
+  rated c = ratings_of c v.top v.bottom v.unit
 
   pub record EnoughFrom (budget c : ℕ) : Type 0 where
     pub some : 1 ≤ c

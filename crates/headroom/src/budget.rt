@@ -4,7 +4,7 @@ ghost use Rattle.walks.specs.ImageGraph.{graph_of};
 ghost use Rattle.certifier.specs.Certify.{Left};
 ghost use Rattle.headroom.specs.Budget.{most_budget, AcceptedAt, LeastBudget, BudgetTold, answer_of, Dearer};
 
-use certifier::certify::{certify, verdict};
+use certifier::certify::Certifier;
 use isa::refusal::Refusal;
 use paths::worth::Worth;
 use pricing::model::PriceModel;
@@ -13,26 +13,24 @@ use pricing::model::PriceModel;
 const MOST_BUDGET: u64 = 100_000_000;
 
 // The price of a walk that the budget does not pay, or none where it pays all.
-fn beyond<M: PriceModel>(image: &[u8], model: &M, budget: u64) -> Option<u64>
-    requires some { 1 ≤ budget }
-    requires most { budget ≤ most_budget }
-    requires enough { AcceptedAt (M.PriceModel.means model.now) image.now 1024 most_budget }
-    ensures { MatchOption result (AcceptedAt (M.PriceModel.means model.now) image.now 1024 budget) (Dearer (M.PriceModel.means model.now) image.now 1024 budget) }
+fn beyond<M: PriceModel>(image: &[u8], by: &Certifier<'_, M>) -> Option<u64>
+    requires some { 1 ≤ by.now.budget }
+    requires most { by.now.budget ≤ most_budget }
+    requires enough { AcceptedAt (M.PriceModel.means by.now.model.now) image.now 1024 most_budget }
+    ensures { MatchOption result (AcceptedAt (M.PriceModel.means by.now.model.now) image.now 1024 by.now.budget) (Dearer (M.PriceModel.means by.now.model.now) image.now 1024 by.now.budget) }
 {
-    match verdict(image, model, budget) {
-        Ok(()) => None,
-        Err(refusal) => Some(refusal.price()),
-    }
+    by.verdict(image).err().map(|refusal| refusal.price())
 }
 
 // The budget raised to the price of a walk that it does not pay, until it pays
 // all.
+// Stays: no certifier, since its budget is what is looked for.
 fn raised<M: PriceModel>(image: &[u8], model: &M) -> u64
     requires { AcceptedAt (M.PriceModel.means model.now) image.now 1024 most_budget }
     ensures { LeastBudget (M.PriceModel.means model.now) image.now 1024 result }
 {
     let mut budget = 1;
-    while let Some(price) = beyond(image, model, budget) {
+    while let Some(price) = beyond(image, &Certifier { model, budget }) {
         budget = price;
     }
     budget
@@ -49,8 +47,10 @@ pub fn least_budget<M: PriceModel>(
     ensures least { BudgetTold (M.PriceModel.means model.now) image.now (length working.old) result }
     ensures left { Left (graph_of (M.PriceModel.means model.now) image.now) working.old working.new (answer_of result) }
 {
-    match certify(image, model, MOST_BUDGET, working) {
-        Ok(()) => Ok(raised(image, model)),
-        Err(refusal) => Err(refusal),
-    }
+    let by = Certifier {
+        model,
+        budget: MOST_BUDGET,
+    };
+    by.certify(image, working)?;
+    Ok(raised(image, model))
 }

@@ -1,6 +1,6 @@
 // The six-slot round: r1 = 7; next reading; r2 = r0; idle; record; EXIT.
 use crate::budget::least_budget;
-use crate::capacity::least_capacity;
+use crate::capacity::{Voltages, least_capacity};
 use crate::stretch::{dearest_start, onward};
 use isa::refusal::Refusal;
 use paths::node::{Node, Successors};
@@ -15,6 +15,14 @@ const SIX: &[u8; 48] = b"\
     \x05\x00\x00\x00\x00\x00\x00\x00\
     \x85\x00\x00\x00\x03\x00\x00\x00\
     \x95\x00\x00\x00\x00\x00\x00\x00";
+
+const fn voltages(top: u32, bottom: u32) -> Voltages {
+    Voltages {
+        top,
+        bottom,
+        unit: 1_000_000,
+    }
+}
 
 const NONE: Worth = Worth { price: 0, slot: 0 };
 
@@ -38,15 +46,15 @@ fn the_six_slots_need_258(rt: HostRuntime) {
 #[test]
 fn they_fit_104_microfarads(rt: HostRuntime) -> Result<(), Fail> {
     let mut working = [NONE; 1024];
-    match least_capacity(SIX, &OperandModel, 3000, 2000, 1_000_000, &mut working) {
+    match least_capacity(SIX, &OperandModel, voltages(3000, 2000), &mut working) {
         Ok(capacity) => assert_eq!(rt; capacity, Some(104)),
         Err(refusal) => assert_eq!(rt; number(refusal), 0),
     }
-    match least_capacity(SIX, &OperandModel, 11, 10, 1_000_000, &mut working) {
+    match least_capacity(SIX, &OperandModel, voltages(11, 10), &mut working) {
         Ok(capacity) => assert_eq!(rt; capacity, None),
         Err(refusal) => assert_eq!(rt; number(refusal), 0),
     }
-    match least_capacity(SIX, &OperandModel, 2000, 3000, 1_000_000, &mut working) {
+    match least_capacity(SIX, &OperandModel, voltages(2000, 3000), &mut working) {
         Ok(_) => {
             assert!(rt; false);
             Ok(())

@@ -1,15 +1,9 @@
 -- A refusal tells the price of a walk over budget.
-use Rattle.std.proofs.Common.{ℕ, sym, ◌∙◌}
-use mathlib.Core.Path.{subst⁻¹}
-use Rattle.headroom.specs.Budget.{Dearer}
-use Rattle.headroom.proofs.Raising.{dearer}
+use Rattle.std.proofs.Common.{rules}
+use Rattle.headroom.proofs.Raising.{beyond_by}
 use Rattle.headroom.proofs.budget.beyond.Goals as goal
 
-pub returns-in-Err : goal.returns-in-Err
-returns-in-Err g c =
-    let m = g.M.PriceModel.means c.args.model.now in
-    let image = c.args.image.now in
-    let b = c.args.budget in
-    let refusal = c.in-Err.refusal in
-    subst⁻¹ (λ (x : ℕ). Dearer m image 1024 b x) c.price.ensures
-    (dearer m image b c.requires.enough c.requires.some c.requires.most refusal (sym c.in-Err.is ∙ c.verdict.ensures.value))
+pub returns : goal.returns
+returns g c =
+    beyond_by (g.M.PriceModel.means c.args.by.now.model.now) c.args.image.now c.args.by.now.budget c.requires.enough c.requires.some c.requires.most
+    c.verdict.result c.verdict.ensures.value c.map.result (search rules)

@@ -6,14 +6,13 @@ use Rattle.paths.specs.Net.{In}
 use Rattle.walks.specs.Certified.{is_save}
 use Rattle.walks.specs.Graph.{Graph, ending, onward, Sound}
 use Rattle.walks.specs.Walk.{Chain, Ends, walk_price}
-use Rattle.walks.proofs.Clash.{clash}
 use Rattle.walks.proofs.Steps.{Steps as Along}
 
 pub save_role : (r : Role) → is_save r ≡ true → r ≡ Save
 save_role Save e = refl
-save_role Idle e = clash (cc)
-save_role Exit e = clash (cc)
-save_role Other e = clash (cc)
+save_role Idle e = absurd cc
+save_role Exit e = absurd cc
+save_role Other e = absurd cc
 
 module _ (g : Graph) where
   pub along_chain : (l : List ℕ) (n t : ℕ) → Along (onward g) n l t → Chain g n l
@@ -35,7 +34,7 @@ module _ (g : Graph) where
     goes_on n t e i = go (g.role n) refl
       where
         go : (r : Role) → g.role n ≡ r → ending r ≡ false
-        go Save q = clash (let z = ap is_save q in cc)
+        go Save q = absurd (let z = ap is_save q in cc)
         go Idle q = refl
         go Exit q = absurd (let h : In t [] = subst (λ (l : List ℕ). In t l) (sound.exits n q) i in h)
         go Other q = refl

@@ -1,6 +1,5 @@
 -- What a step that was answered yes keeps; on a fresh charge every step is.
 use Rattle.std.proofs.Common.{◌≡◌, ℕ, suc, ◌+◌, ◌<◌, ◌≤◌, true, false, ◌⊎◌, [], ◌∷◌, ◌++◌, sym, refl, ◌∙◌, subst, inl, inr, ⊎_elim, arith}
-use mathlib.Core.Path.{subst⁻¹}
 use Rattle.std.proofs.lemmas.Bool.{cases_Bool, cases_lt}
 use Rattle.isa.specs.declared.instruction.Role.TheVariants.{Save}
 use Rattle.machine.specs.Process.{Steps, Steps.begin, Steps.plain, Steps.save, AfterSaves.left}
@@ -12,29 +11,28 @@ use Rattle.walks.specs.Charge.{Charged}
 use Rattle.walks.specs.Graph.{ending, onward, Sound}
 use Rattle.walks.specs.Walk.{Reachable, first, next, Ends}
 use Rattle.walks.proofs.Charging.{charge_right}
-use Rattle.walks.proofs.Clash.{clash}
 use Rattle.walks.proofs.Steps.{steps_on}
 use Rattle.walks.proofs.Walking.{way_onward}
 use Rattle.claims.specs.Machine.{Machine, StepObeys, Obeys}
-use Rattle.claims.specs.Rig.{Rig, attempt_limit, Went}
+use Rattle.claims.specs.Rig.{Rig, Went}
 use Rattle.claims.proofs.Following.{save_role, along_chain, ends_at, price_on, goes_on, after_save}
-use Rattle.claims.proofs.Invariant.{Keeps, made, rebuilt, Tried, Tried.not_yet, Tried.to, Fresh, Spared, Alive, Over, Invariant, few_charges}
+use Rattle.claims.proofs.Invariant.{Keeps, made, rebuilt, Tried, Tried.not_yet, Tried.to, Fresh, Spared, Asked, Alive, Over, Invariant, few_charges}
 use Rattle.claims.proofs.Running.{counts_up}
 
-pub one_more : {n asked : ℕ} → (n ≡ asked) ⊎ (attempt_limit ≤ n) → (n + 1 ≡ suc asked) ⊎ (attempt_limit ≤ n + 1)
-one_more (inl e) = inl (omega arith)
-one_more (inr h) = inr (omega arith)
+pub one_more : {n n' asked : ℕ} → n' ≡ n + 1 → Asked asked n → Asked (suc asked) n'
+one_more more (inl e) = inl (omega arith)
+one_more more (inr h) = inr (omega arith)
 
 module _ {S State : Type 0} (G : Ghosts S) (m : Machine State) (budget : ℕ) (keeps : Keeps G) (obeys : Obeys m) (accepted : Accepted m.graph budget) where
   sound : Sound m.graph
   sound = obeys.placeable.sound
 
   reaches : {n k : ℕ} {σ : State} → Steps m.run n k σ → m.run.ended σ ≡ false → Reachable m.graph (m.node σ)
-  reaches begin goes = subst⁻¹ (Reachable m.graph) obeys.first first
+  reaches begin goes = rw obeys.first first
   reaches (plain {n} {k} {σ} s live plain-one) goes = next (reaches s live) ((obeys.steps n k σ s live).moves goes)
   reaches (save {n} {k} {σ} s live saves) goes = next (reaches s live) ((obeys.steps n k σ s live).moves goes)
 
-  module _ {asked : ℕ} {r : Rig S State} (a : Alive G m budget asked r) where
+  module _ {r : Rig S State} (a : Alive G m budget r) where
     law : StepObeys m r.state
     law = obeys.steps a.q r.saves r.state a.state_run a.live
 
@@ -53,7 +51,7 @@ module _ {S State : Type 0} (G : Ghosts S) (m : Machine State) (budget : ℕ) (k
         elsewhere : ending (m.graph.role (m.node r.state)) ≡ false → m.amount r.kept r.state ≤ (G.four r.supply).assured
         elsewhere e =
             let unended : Ends m.graph (m.node r.kept) a.way → ⊥ =
-            λ h. clash (let z = ends_at m.graph a.way (m.node r.kept) (m.node r.state) a.walked h in cc) in
+            λ h. absurd (let z = ends_at m.graph a.way (m.node r.kept) (m.node r.state) a.walked h in cc) in
             let h = law.ends r.kept in
             let c = charged.spared unended in
             let b = f.room in
@@ -74,9 +72,9 @@ module _ {S State : Type 0} (G : Ghosts S) (m : Machine State) (budget : ℕ) (k
       drawn : Drawn (G.four r.supply) (m.amount r.kept r.state) Yes (G.four r'.supply)
       drawn = keeps.drawn _ _ _ _ t.drawn
 
-      went_on : m.run.saves r.state ≡ false → m.run.ended (m.run.step r.state) ≡ false → Alive G m budget (suc asked) r'
+      went_on : m.run.saves r.state ≡ false → m.run.ended (m.run.step r.state) ≡ false → Alive G m budget r'
       went_on s e =
-          subst (Alive G m budget (suc asked)) (rebuilt r' _ _ _ _ _ _ t.state_is kept_same t.before_is saves_same t.cuts_is t.attempts_is)
+          subst (Alive G m budget) (rebuilt r' _ _ _ _ _ _ t.state_is kept_same t.before_is saves_same t.cuts_is t.attempts_is)
           (record {
             p = a.p;
             q = suc a.q;
@@ -97,7 +95,6 @@ module _ {S State : Type 0} (G : Ghosts S) (m : Machine State) (budget : ℕ) (k
             tried = a.tried;
             uncut = λ z. let b = a.uncut z in omega arith;
             charge = charge a.charge;
-            steps = one_more a.steps;
           })
         where
           there : ℕ
@@ -123,9 +120,9 @@ module _ {S State : Type 0} (G : Ghosts S) (m : Machine State) (budget : ℕ) (k
               inl (record { few = f.few; room = omega arith })
           charge (inr f) = inr (record { few = f.few; unfallen = f.unfallen })
 
-      went_save : m.run.saves r.state ≡ true → Alive G m budget (suc asked) r'
+      went_save : m.run.saves r.state ≡ true → Alive G m budget r'
       went_save s =
-          subst (Alive G m budget (suc asked)) (rebuilt r' _ _ _ _ _ _ t.state_is kept_same t.before_is saves_same t.cuts_is t.attempts_is)
+          subst (Alive G m budget) (rebuilt r' _ _ _ _ _ _ t.state_is kept_same t.before_is saves_same t.cuts_is t.attempts_is)
           (record {
             p = suc a.q;
             q = suc a.q;
@@ -145,7 +142,6 @@ module _ {S State : Type 0} (G : Ghosts S) (m : Machine State) (budget : ℕ) (k
             tried = not_yet (omega arith);
             uncut = λ z. let b = a.uncut z in let c = reached s in omega arith;
             charge = inr (record { few = let h = few_charges G m budget a.charge in omega arith; unfallen = refl });
-            steps = one_more a.steps;
           })
         where
           there : ℕ
@@ -190,8 +186,9 @@ module _ {S State : Type 0} (G : Ghosts S) (m : Machine State) (budget : ℕ) (k
           saves_same : r'.saves ≡ r.saves
           saves_same = simp untold at t.saves_is
 
-      pub went_either : Invariant G m budget (suc asked) r'
-      went_either =
-          ⊎_elim (λ s. inl (went_save s))
-          (λ s. ⊎_elim (λ e. inr (went_out s e)) (λ e. inl (went_on s e)) (cases_Bool (m.run.ended (m.run.step r.state))))
+      pub went_either : {asked : ℕ} → Asked asked r.attempts → Invariant G m budget (suc asked) r'
+      went_either asks =
+          let more = one_more t.attempts_is asks in
+          ⊎_elim (λ s. inl (went_save s, more))
+          (λ s. ⊎_elim (λ e. inr (went_out s e)) (λ e. inl (went_on s e, more)) (cases_Bool (m.run.ended (m.run.step r.state))))
           (cases_Bool (m.run.saves r.state))

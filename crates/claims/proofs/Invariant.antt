@@ -4,7 +4,8 @@
 --     Tried m k p far              how far the rig had come where it fell since its last save, at k saves; before that, at most p
 --     Fresh G m budget r way n     n charges, the last one at the kept state: it pays for every walk from there, of which r has gone way
 --     Spared r p n far             n charges, and a save since the last one; no try has fallen since
---     Alive G m budget asked r     a rig that has not ended, after so many steps were asked
+--     Alive G m budget r           a rig that has not ended
+--     Asked asked n                n attempts are one for each of so many steps that were asked, or as many as a rig makes
 --     Over G m r                   a rig that has ended
 use Rattle.std.proofs.Common.{◌≡◌, ℕ, suc, ◌+◌, ◌%◌, ◌^◌, ◌≤◌, true, false, ◌⊎◌, List, ◌∷◌, sym, inl, inr, arith}
 use Rattle.machine.specs.Process.{Steps, AfterSaves}
@@ -20,6 +21,9 @@ use Rattle.claims.specs.Rig.{Rig, attempt_limit}
 pub record Keeps {S : Type 0} (G : Ghosts S) : Type 0 where
   pub drawn : (s t : S) (n : ℕ) (a : Answer) → G.draws s n a t → Drawn (G.four s) n a (G.four t)
   pub recharged : (s t : S) → G.fills s t → Recharged (G.four s) (G.four t)
+
+abbrev pub Asked : ℕ → ℕ → Type 0
+Asked asked n = (n ≡ asked) ⊎ (attempt_limit ≤ n)
 
 module _ {S State : Type 0} where
   abbrev pub made : S → State → State → ℕ → ℕ → ℕ → ℕ → Rig S State
@@ -52,7 +56,7 @@ module _ {S State : Type 0} (G : Ghosts S) (m : Machine State) where
       -- what the walk has cost and what is assured come to the budget, and the node where the rig stands is still to pay
       pub room : budget + m.graph.price (m.node r.state) ≤ (G.four r.supply).assured + walk_price m.graph (m.node r.kept ∷ way)
 
-    pub record Alive (asked : ℕ) (r : Rig S State) : Type 0 where
+    pub record Alive (r : Rig S State) : Type 0 where
       -- the kept state after p steps of the run, and the state after q, with as many saves
       pub p : ℕ
       pub q : ℕ
@@ -75,10 +79,9 @@ module _ {S State : Type 0} (G : Ghosts S) (m : Machine State) where
       -- the attempts: without cuts, those of one fallen try and of this one since the beginning
       pub tried : Tried m r.saves p far
       pub uncut : r.cuts ≡ 0 → r.attempts ≤ far + q
-      pub steps : (r.attempts ≡ asked) ⊎ (attempt_limit ≤ r.attempts)
 
     abbrev pub Invariant : ℕ → Rig S State → Type 0
-    Invariant asked r = Alive asked r ⊎ Over r
+    Invariant asked r = (Alive r × Asked asked r.attempts) ⊎ Over r
 
     pub few_charges : {r : Rig S State} {way : List ℕ} {p rises far : ℕ} → Fresh r way rises ⊎ Spared r p rises far
         → rises ≤ r.saves + r.cuts + 1

@@ -1,6 +1,5 @@
 -- The machine of a round keeps the laws of a machine, where its image is lawful.
-use Rattle.std.proofs.Common.{◌≡◌, ℕ, ◌+◌, ◌<◌, ◌≤◌, Bool, true, false, List, [], ◌∷◌, ◌++◌, ℤ, pos, negsuc, Some, Option, sym, refl, ap, ◌∙◌, subst, inl, inr, ⊎_elim, arith}
-use mathlib.Core.Path.{subst⁻¹}
+use Rattle.std.proofs.Common.{◌≡◌, ℕ, ◌+◌, ◌<◌, ◌≤◌, Bool, true, false, List, [], ◌∷◌, ◌++◌, ℤ, pos, negsuc, Some, sym, refl, ap, ◌∙◌, inl, inr, ⊎_elim, arith}
 use Rattle.isa.specs.declared.instruction.Instruction.{Instruction}
 use Rattle.isa.specs.declared.instruction.Role.{Role}
 use Rattle.isa.specs.declared.instruction.Role.TheVariants.{Save, Idle, Exit, Other}
@@ -22,7 +21,6 @@ use Rattle.pricing.specs.Model.{Model, Bounded}
 use Rattle.walks.specs.Certified.{is_save}
 use Rattle.walks.specs.Graph.{ending}
 use Rattle.walks.specs.ImageGraph.{price_by, price_of, way_list, role_in, ways_in, price_in, role_at, ways_at, price_at}
-use Rattle.walks.proofs.Clash.{clash}
 use Rattle.walks.proofs.Imaging.{lawful_sound, lawful_placeable}
 use Rattle.claims.specs.Machine.{StepObeys}
 use Rattle.claims.specs.Amount.{spending_of, amount_for, pending, amount_of}
@@ -41,8 +39,8 @@ module _ (d : Model) (bounded : Bounded d) where
   completing Save e x p most z h = bounded.saving_within p
   completing Exit true x p most z h = let s = bounded.saving_within p in omega arith
   completing Exit false x p most z h = omega arith
-  completing Idle e x p most z h = clash (cc)
-  completing Other e x p most z h = clash (cc)
+  completing Idle e x p most z h = absurd cc
+  completing Other e x p most z h = absurd cc
 
   stopping : (r : Role) (e : Bool) (x : Work) (p most : ℕ) → spending_of d x ≤ most
       → amount_for d (effect_in r e x) p ≤ price_by r most d.dearest + d.dearest
@@ -91,7 +89,7 @@ module _ (d : Model) (image tape : List ℕ) (lawful : Lawful image) where
 
   fetched_at : (z : ℤ) (x : Instruction) → fetched image z ≡ Some x → (i : ℕ) × (instruction_at image i ≡ Some x)
   fetched_at (pos i) x e = (i, e)
-  fetched_at (negsuc i) x e = clash (cc)
+  fetched_at (negsuc i) x e = absurd cc
 
   insides : (σ : State) (x : Instruction) → fetched image σ.slot ≡ Some x
       → Inside (ways_out x).0 (slot_count image) × Inside (ways_out x).1 (slot_count image)
@@ -105,8 +103,7 @@ module _ (d : Model) (image tape : List ℕ) (lawful : Lawful image) where
       let n = slot_count image in
       let s = insides σ x p.1 in
       stands_in
-      (⊎_elim (λ (e : (ways_out x).0 ≡ Some z). there z n (subst (λ (w : Option ℤ). Inside w n) e s.0))
-      (λ (e : (ways_out x).1 ≡ Some z). there z n (subst (λ (w : Option ℤ). Inside w n) e s.1)) p.2)
+      (⊎_elim (λ (e : (ways_out x).0 ≡ Some z). there z n (rw e at s.0)) (λ (e : (ways_out x).1 ≡ Some z). there z n (rw e at s.1)) p.2)
 
   stands : {n k : ℕ} {σ : State} → Steps (mains image tape) n k σ → ended σ ≡ false → Stands σ
   stands begin goes = stands_in (0, refl, (lawful_sound d image lawful).some)
@@ -153,10 +150,10 @@ module _ (d : Model) (image tape : List ℕ) (lawful : Lawful image) where
         let a = way_list (ways_out y).0 in
         let b = way_list (ways_out y).1 in
         let found : In (node_of z) (a ++ b) =
-        ⊎_elim (λ (e : (ways_out y).0 ≡ Some z). in_left (node_of z) a b (subst⁻¹ (λ (w : Option ℤ). In (node_of z) (way_list w)) e (listed z n (subst (λ (w : Option ℤ). Inside w n) e s.0))))
-        (λ (e : (ways_out y).1 ≡ Some z). in_right (node_of z) a b (subst⁻¹ (λ (w : Option ℤ). In (node_of z) (way_list w)) e (listed z n (subst (λ (w : Option ℤ). Inside w n) e s.1)))) p.2 in
+        ⊎_elim (λ (e : (ways_out y).0 ≡ Some z). in_left (node_of z) a b (rw e (listed z n (rw e at s.0))))
+        (λ (e : (ways_out y).1 ≡ Some z). in_right (node_of z) a b (rw e (listed z n (rw e at s.1)))) p.2 in
         let alike : ways_in (Some y) ≡ ways_at image (node_of σ.slot) = ap ways_in (sym p.1 ∙ fetch_is) ∙ sym ways_are in
-        subst (λ (l : List ℕ). In (node_of z) l) alike found
+        rw alike at found
 
     step_obeys : StepObeys (round_of d image tape) σ
     step_obeys =

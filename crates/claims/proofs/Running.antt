@@ -3,7 +3,6 @@ use Rattle.std.proofs.Common.{◌≡◌, ℕ, suc, ◌<◌, ◌≤◌, true, fal
 use Rattle.std.proofs.lemmas.Bool.{cases_eq}
 use Rattle.machine.specs.Process.{Process, Steps, Steps.begin, Steps.plain, Steps.save, EndsAfter}
 use Rattle.machine.proofs.Processes.{deterministic}
-use Rattle.walks.proofs.Clash.{clash}
 
 module _ {S : Type 0} (p : Process S) where
   same : {n n' k k' : ℕ} {σ τ : S} → n ≡ n' → Steps p n k σ → Steps p n' k' τ → (k ≡ k') × (σ ≡ τ)
@@ -22,7 +21,7 @@ module _ {S : Type 0} (p : Process S) where
   -- a state of the run that has not ended comes before the end
   before_live : {n i k k' : ℕ} {σ τ : S} → Steps p n k σ → p.ended σ ≡ true → Steps p i k' τ → p.ended τ ≡ false → i ≤ n → i < n
   before_live {n} {i} s over t goes h =
-      ⊎_elim (λ (e : n ≡ i). clash (let q = ap p.ended (same e s t).1 in cc)) (λ (ne : n ≡ i → ⊥). omega arith) (cases_eq n i)
+      ⊎_elim (λ (e : n ≡ i). absurd (let q = ap p.ended (same e s t).1 in cc)) (λ (ne : n ≡ i → ⊥). omega arith) (cases_eq n i)
 
   within : {n i k k' : ℕ} {σ τ : S} → Steps p n k σ → p.ended σ ≡ true → Steps p i k' τ → i ≤ n
   within s over begin = omega arith

@@ -17,8 +17,7 @@ pub fn amount_for<M: PriceModel>(model: &M, effect: Effect, pending: usize) -> u
 {
     match effect {
         Effect::Nothing => 0,
-        Effect::NoInstruction => model.saving(pending),
-        Effect::Save(_) => model.saving(pending),
+        Effect::NoInstruction | Effect::Save(_) => model.saving(pending),
         Effect::End(work) => spending_of(model, work) + model.saving(pending),
         Effect::Other(work) => spending_of(model, work),
     }

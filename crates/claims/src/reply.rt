@@ -3,11 +3,14 @@ use isa::refusal::Refusal;
 use machine::ending::Ending;
 use machine::state::Record;
 
-// A step that was not refused: no, or yes and any ending.
+// A step that was not refused.
 #[derive(Clone, Copy)]
 pub enum Attempt {
     No,
-    Yes(Option<Ending>),
+    // yes, and the round goes on
+    Yes,
+    // yes, and the round has ended so
+    Ended(Ending),
 }
 
 #[derive(Clone, Copy)]

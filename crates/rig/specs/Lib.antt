@@ -1,3 +1,4 @@
+pub mod Limit
 pub mod Plan
 pub mod Rehearsal
 pub mod Seen

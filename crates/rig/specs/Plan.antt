@@ -1,13 +1,11 @@
 -- A step before it is drawn for. Assumes nothing.
---     Plans d image tape κ σ p     p plans the step at σ, where κ is the kept state
-use Rattle.std.specs.Prelude.{◌≡◌, ℕ, List}
+--     Plans m κ σ p     p plans the step of the machine m at σ, where κ is the kept state
+use Rattle.std.specs.Prelude.{◌≡◌}
 use Rattle.machine.specs.declared.state.State.{State}
-use Rattle.machine.specs.Step.{is_save, mains_step, mains_effect}
-use Rattle.pricing.specs.Model.{Model}
-use Rattle.claims.specs.Amount.{amount_of}
+use Rattle.claims.specs.Machine.{Machine}
 use Rattle.rig.specs.declared.plan.Plan.{Plan}
 
-pub record Plans (d : Model) (image tape : List ℕ) (κ σ : State) (p : Plan) : Type 0 where
-  pub next_is : p.next ≡ mains_step image tape σ
-  pub amount_is : p.amount ≡ amount_of d image tape κ σ
-  pub saves_is : p.saves ≡ is_save (mains_effect image tape σ)
+pub record Plans (m : Machine State) (κ σ : State) (p : Plan) : Type 0 where
+  pub next_is : p.next ≡ m.run.step σ
+  pub amount_is : p.amount ≡ m.amount κ σ
+  pub saves_is : p.saves ≡ m.saves σ

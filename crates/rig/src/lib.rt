@@ -4,6 +4,7 @@
 pub mod begin;
 mod charge;
 pub mod cut;
+mod limit;
 mod plan;
 pub mod question;
 pub mod rehearse;

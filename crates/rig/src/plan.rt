@@ -1,9 +1,11 @@
 // A step before it is drawn for.
 ghost use Rattle.std.specs.Prelude.{◌≡◌};
+ghost use Rattle.claims.specs.Round.{machine_of};
 ghost use Rattle.machine.specs.Step.{is_save};
 ghost use Rattle.rig.specs.Plan.{Plans};
 
 use claims::amount::amount_for;
+use claims::round::Round;
 use machine::effect::Effect;
 use machine::state::State;
 use pricing::model::PriceModel;
@@ -19,27 +21,18 @@ pub struct Plan {
 fn is_save(effect: Effect) -> bool
     ensures { result ≡ is_save effect }
 {
-    match effect {
-        Effect::Save(_) => true,
-        _ => false,
-    }
+    matches!(effect, Effect::Save(_))
 }
 
-pub(crate) fn planned<M: PriceModel>(
-    model: &M,
-    image: &[u8],
-    tape: &[u32],
-    kept: State,
-    state: State,
-) -> Plan
-    ensures { Plans (M.PriceModel.means model.now) image.now tape.now kept state result }
+pub(crate) fn planned<M: PriceModel>(round: &Round<M>, kept: State, state: State) -> Plan
+    ensures { Plans (machine_of M.PriceModel.means round.now) kept state result }
 {
     let pending = state.logged().saturating_sub(kept.logged());
     let mut next = state;
-    let effect = next.step(image, tape);
+    let effect = next.step(round.image, round.tape);
     Plan {
         next,
-        amount: amount_for(model, effect, pending),
+        amount: amount_for(round.model, effect, pending),
         saves: is_save(effect),
     }
 }

@@ -48,10 +48,8 @@ impl<S: Supply> Rig<S> {
     pub fn record(&self, index: usize) -> Result<Record, Refusal>
         ensures { result ≡ record_or (record_in self.now.kept index) }
     {
-        match self.kept.record(index) {
-            None => Err(Refusal::NoRecord),
-            Some(record) => Ok(record),
-        }
+        let record = self.kept.record(index);
+        record.ok_or(Refusal::NoRecord)
     }
 
     // The state that the rig goes back to.

@@ -1,28 +1,23 @@
 // A rehearsal: a rig begun on a supply, and the calls of a script.
 ghost use Rattle.claims.specs.History.{Called};
-ghost use Rattle.claims.specs.Round.{round_of};
+ghost use Rattle.claims.specs.Round.{machine_of};
 ghost use Rattle.rig.specs.Rehearsal.{Rehearsed};
 ghost use Rattle.rig.specs.Seen.{seen};
 
 use crate::rig::Rig;
 use claims::call::Call;
 use claims::reply::Reply;
+use claims::round::Round;
 use pricing::model::PriceModel;
 use supply::supply::Supply;
 
 impl<S: Supply> Rig<S> {
     // Makes a call.
-    pub fn call<M: PriceModel>(
-        &mut self,
-        call: Call,
-        model: &M,
-        image: &[u8],
-        tape: &[u32],
-    ) -> Reply
-        ensures { Called S.Supply (round_of (M.PriceModel.means model.now) image.now tape.now) call (seen self.old) result (seen self.new) }
+    pub fn call<M: PriceModel>(&mut self, call: Call, round: &Round<M>) -> Reply
+        ensures { Called S.Supply (machine_of M.PriceModel.means round.now) call (seen self.old) result (seen self.new) }
     {
         match call {
-            Call::Step => Reply::Step(self.step(model, image, tape)),
+            Call::Step => Reply::Step(self.step(round)),
             Call::Cut => Reply::Cut(self.cut()),
             Call::Charges => Reply::Count(self.charges()),
             Call::Saves => Reply::Count(self.saves() as u64),
@@ -34,51 +29,45 @@ impl<S: Supply> Rig<S> {
 }
 
 // Whoever watches a rehearsal: told after each call how many were made.
+// Stays: a closure is called under a `requires`, and no public call here has one.
 pub trait Watch {
     fn made(&mut self, calls: usize);
 }
 
-#[derive(Drop)]
-struct Nobody;
-
-impl Watch for Nobody {
+// Nobody watches.
+impl Watch for () {
     fn made(&mut self, _calls: usize) {}
 }
 
 // Begins a rig on a supply and makes the calls of a script, as many as there is
 // room for their replies.
+// Stays: the caller lends the room for the replies, as a library has no heap.
 pub fn rehearse<S: Supply, M: PriceModel>(
     supply: S,
-    model: &M,
-    image: &[u8],
-    tape: &[u32],
+    round: &Round<M>,
     calls: &[Call],
     replies: &mut [Reply],
 ) -> Rig<S>
-    ensures { Rehearsed S.Supply (M.PriceModel.means model.now) image.now tape.now supply calls.now replies.old replies.new (seen result) }
+    ensures { Rehearsed S.Supply M.PriceModel.means round.now supply calls.now replies.old replies.new (seen result) }
 {
-    let mut nobody = Nobody;
-    rehearse_watched(supply, model, image, tape, calls, replies, &mut nobody)
+    rehearse_watched(supply, round, calls, replies, &mut ())
 }
 
 // The same rehearsal, watched.
 pub fn rehearse_watched<S: Supply, M: PriceModel, W: Watch>(
     supply: S,
-    model: &M,
-    image: &[u8],
-    tape: &[u32],
+    round: &Round<M>,
     calls: &[Call],
     replies: &mut [Reply],
     watch: &mut W,
 ) -> Rig<S>
-    ensures { Rehearsed S.Supply (M.PriceModel.means model.now) image.now tape.now supply calls.now replies.old replies.new (seen result) }
+    ensures { Rehearsed S.Supply M.PriceModel.means round.now supply calls.now replies.old replies.new (seen result) }
 {
     let mut rig = Rig::begin(supply);
-    let mut made = 0;
-    while made < calls.len() && made < replies.len() {
-        replies[made] = rig.call(calls[made], model, image, tape);
-        made += 1;
-        watch.made(made);
+    // Stays: a proof knows nothing of the replies after iter_mut().zip(calls).
+    for made in 0..calls.len().min(replies.len()) {
+        replies[made] = rig.call(calls[made], round);
+        watch.made(made + 1);
     }
     rig
 }

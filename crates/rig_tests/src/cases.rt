@@ -1,4 +1,6 @@
 // Rounds with the price that they are accepted at under the flat model, all 10.
+use claims::round::Round;
+use machine::ending::{Ending, Trap};
 use pricing::flat::FlatModel;
 
 pub(crate) struct Case {
@@ -7,8 +9,7 @@ pub(crate) struct Case {
     pub(crate) budget: u64,
     // the steps that the run takes to its end
     pub(crate) steps: u64,
-    // how it ends: 5 by EXIT, else a trap
-    pub(crate) ending: u8,
+    pub(crate) ending: Ending,
 }
 
 // r1 = 7, the next reading, r2 = r0, a save, a record, EXIT
@@ -25,7 +26,7 @@ pub(crate) static CASES: [Case; 6] = [
         tape: &[5],
         budget: 40,
         steps: 6,
-        ending: 5,
+        ending: Ending::Exit,
     },
     // the same without a reading
     Case {
@@ -33,7 +34,7 @@ pub(crate) static CASES: [Case; 6] = [
         tape: &[],
         budget: 40,
         steps: 2,
-        ending: 3,
+        ending: Ending::Trap(Trap::TapeFinished),
     },
     // a save, the next reading, a record of it, over and over
     Case {
@@ -45,7 +46,7 @@ pub(crate) static CASES: [Case; 6] = [
         tape: &[9, 8, 7, 6],
         budget: 50,
         steps: 22,
-        ending: 3,
+        ending: Ending::Trap(Trap::TapeFinished),
     },
     // records until the log is full, with a save after each
     Case {
@@ -56,7 +57,7 @@ pub(crate) static CASES: [Case; 6] = [
         tape: &[],
         budget: 40,
         steps: 258,
-        ending: 4,
+        ending: Ending::Trap(Trap::LogFull),
     },
     // a store and a load past the memory
     Case {
@@ -68,7 +69,7 @@ pub(crate) static CASES: [Case; 6] = [
         tape: &[],
         budget: 40,
         steps: 4,
-        ending: 2,
+        ending: Ending::Trap(Trap::OutsideMemory),
     },
     // three saves in a row
     Case {
@@ -79,9 +80,17 @@ pub(crate) static CASES: [Case; 6] = [
         tape: &[],
         budget: 20,
         steps: 4,
-        ending: 5,
+        ending: Ending::Exit,
     },
 ];
+
+pub(crate) fn round_of<'a>(
+    model: &'a FlatModel,
+    image: &'a [u8],
+    tape: &'a [u32],
+) -> Round<'a, FlatModel> {
+    Round { model, image, tape }
+}
 
 pub(crate) fn flat() -> FlatModel {
     FlatModel::new([10; 257])

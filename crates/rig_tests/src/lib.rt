@@ -2,8 +2,6 @@
 #![tactic(auto)]
 
 #[cfg(test)]
-mod alike;
-#[cfg(test)]
 mod cases;
 mod hostile;
 #[cfg(test)]
@@ -16,3 +14,5 @@ mod run_claims;
 mod starred;
 #[cfg(test)]
 mod used;
+#[cfg(test)]
+mod watched;

@@ -1,5 +1,8 @@
 // The refusals of a rig at their edges.
-use crate::cases::{ROUND, flat};
+use crate::cases::{ROUND, flat, round_of};
+use claims::round::Round;
+use isa::refusal::Refusal;
+use pricing::flat::FlatModel;
 use rig::rig::Rig;
 use std::process::Abort;
 use std::test::Fail;
@@ -17,60 +20,45 @@ const LONG: &[u8; 32] = b"\xb7\x01\0\0\0\0\0\0\
        \x55\x01\xfe\xff\x1f\xa1\x07\0\
        \x95\0\0\0\0\0\0\0";
 
-// The number of the refusal, 0 where there is none.
-fn step_refused(rig: &mut Rig<Mains>, image: &[u8], tape: &[u32]) -> u8 {
-    match rig.step(&flat(), image, tape) {
-        Ok(_) => 0,
-        Err(refusal) => refusal.number(),
-    }
-}
-
-fn cut_refused(rig: &mut Rig<Mains>) -> u8 {
-    match rig.cut() {
-        Ok(()) => 0,
-        Err(refusal) => refusal.number(),
-    }
-}
-
-fn record_refused(rig: &Rig<Mains>, index: usize) -> u8 {
-    match rig.record(index) {
-        Ok(_) => 0,
-        Err(refusal) => refusal.number(),
-    }
+// The number of the refusal.
+fn refused<T: Drop>(answer: Result<T, Refusal>) -> Option<u8> {
+    answer.err().map(|refusal| refusal.number())
 }
 
 // Steps of which none is refused.
-fn steps(rt: &impl Abort, rig: &mut Rig<Mains>, image: &[u8], tape: &[u32], count: u32) {
+fn steps(rt: &impl Abort, rig: &mut Rig<Mains>, round: &Round<FlatModel>, count: u32) {
     for _ in 0..count {
-        assert_eq!(rt; step_refused(rig, image, tape), 0);
+        assert_eq!(rt; refused(rig.step(round)), None);
     }
 }
 
 #[test]
 fn records(rt: HostRuntime) -> Result<(), Fail> {
+    let model = flat();
+    let round = round_of(&model, ROUND, &[5]);
     let mut rig = Rig::begin(Mains::new());
-    steps(&rt, &mut rig, ROUND, &[5], 5);
+    steps(&rt, &mut rig, &round, 5);
     // the record is there, but not kept
-    assert_eq!(rt; record_refused(&rig, 0), 24);
-    steps(&rt, &mut rig, ROUND, &[5], 1);
-    assert_eq!(rt; record_refused(&rig, 1), 24);
-    assert_eq!(rt; record_refused(&rig, usize::MAX), 24);
-    match rig.record(0) {
-        Ok(record) => {
-            assert_eq!(rt; record.sensor, 7);
-            assert_eq!(rt; record.value, 5);
-            Ok(())
-        }
-        Err(refusal) => Err(Fail::new(refusal.number())),
-    }
+    assert_eq!(rt; refused(rig.record(0)), Some(24));
+    steps(&rt, &mut rig, &round, 1);
+    assert_eq!(rt; refused(rig.record(1)), Some(24));
+    assert_eq!(rt; refused(rig.record(usize::MAX)), Some(24));
+    let record = rig
+        .record(0)
+        .map_err(|refusal| Fail::new(refusal.number()))?;
+    assert_eq!(rt; record.sensor, 7);
+    assert_eq!(rt; record.value, 5);
+    Ok(())
 }
 
 #[test]
 fn after_the_ending(rt: HostRuntime) {
+    let model = flat();
+    let round = round_of(&model, ROUND, &[5]);
     let mut rig = Rig::begin(Mains::new());
-    steps(&rt, &mut rig, ROUND, &[5], 6);
-    assert_eq!(rt; step_refused(&mut rig, ROUND, &[5]), 21);
-    assert_eq!(rt; cut_refused(&mut rig), 21);
+    steps(&rt, &mut rig, &round, 6);
+    assert_eq!(rt; refused(rig.step(&round)), Some(21));
+    assert_eq!(rt; refused(rig.cut()), Some(21));
     assert_eq!(rt; rig.attempts(), 6);
     assert_eq!(rt; rig.cuts(), 0);
     assert_eq!(rt; rig.charges(), 1);
@@ -78,31 +66,37 @@ fn after_the_ending(rt: HostRuntime) {
 
 #[test]
 fn after_all_attempts(rt: HostRuntime) {
+    let model = flat();
+    let round = round_of(&model, FOREVER, &[]);
     let mut rig = Rig::begin(Mains::new());
-    steps(&rt, &mut rig, FOREVER, &[], MILLION);
-    assert_eq!(rt; step_refused(&mut rig, FOREVER, &[]), 22);
+    steps(&rt, &mut rig, &round, MILLION);
+    assert_eq!(rt; refused(rig.step(&round)), Some(22));
     assert_eq!(rt; rig.attempts(), MILLION);
-    assert_eq!(rt; cut_refused(&mut rig), 0);
+    assert_eq!(rt; refused(rig.cut()), None);
 }
 
 // The ending comes first where the last attempt ends the round.
 #[test]
 fn ending_at_the_last_attempt(rt: HostRuntime) {
+    let model = flat();
+    let round = round_of(&model, LONG, &[]);
     let mut rig = Rig::begin(Mains::new());
-    steps(&rt, &mut rig, LONG, &[], MILLION);
+    steps(&rt, &mut rig, &round, MILLION);
     assert_eq!(rt; rig.attempts(), MILLION);
-    assert_eq!(rt; step_refused(&mut rig, LONG, &[]), 21);
-    assert_eq!(rt; cut_refused(&mut rig), 21);
+    assert_eq!(rt; refused(rig.step(&round)), Some(21));
+    assert_eq!(rt; refused(rig.cut()), Some(21));
 }
 
 #[test]
 fn after_all_cuts(rt: HostRuntime) {
+    let model = flat();
+    let round = round_of(&model, ROUND, &[5]);
     let mut rig = Rig::begin(Mains::new());
     for _ in 0..MILLION {
-        assert_eq!(rt; cut_refused(&mut rig), 0);
+        assert_eq!(rt; refused(rig.cut()), None);
     }
-    assert_eq!(rt; cut_refused(&mut rig), 23);
+    assert_eq!(rt; refused(rig.cut()), Some(23));
     assert_eq!(rt; rig.cuts(), MILLION);
     assert_eq!(rt; rig.charges(), MILLION as u64 + 1);
-    assert_eq!(rt; step_refused(&mut rig, ROUND, &[5]), 0);
+    assert_eq!(rt; refused(rig.step(&round)), None);
 }

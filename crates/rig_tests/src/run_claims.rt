@@ -1,9 +1,10 @@
 // The run claims on supplies that say no whenever they may.
-use crate::alike::{alike, ending_number};
-use crate::cases::{CASES, Case, flat};
+use crate::cases::{CASES, Case, flat, round_of};
 use crate::hostile::Hostile;
-use certifier::certify::verdict;
+use certifier::certify::Certifier;
+use claims::round::Round;
 use machine::run::{Run, run_for};
+use pricing::flat::FlatModel;
 use rig::rig::Rig;
 use std::process::Abort;
 use supply::supply::Supply;
@@ -24,30 +25,32 @@ fn few_charges(rt: &impl Abort, rig: &Rig<Hostile>) {
 }
 
 // Steps on, with a cut after every so many steps, at most five of them.
-fn go(rt: &impl Abort, rig: &mut Rig<Hostile>, case: &Case, steps: u64, between: u64) {
+fn go(rt: &impl Abort, rig: &mut Rig<Hostile>, round: &Round<FlatModel>, steps: u64, between: u64) {
     for step in 0..steps {
         if between > 0 && step % between == 0 && rig.cuts() < 5 {
             let _ = rig.cut();
         }
-        let _ = rig.step(&flat(), case.image, case.tape);
+        let _ = rig.step(round);
         few_charges(rt, rig);
     }
 }
 
 fn ends_as(rt: &impl Abort, rig: &Rig<Hostile>, run: &Run, case: &Case) {
-    alike(rt, &rig.kept(), &run.state);
-    assert_eq!(rt; ending_number(run.state.ending()), case.ending);
+    assert!(rt; rig.kept() == run.state);
+    assert_eq!(rt; run.state.ending(), Some(case.ending));
     assert_eq!(rt; run.steps, case.steps);
 }
 
 fn holds(rt: &impl Abort, case: &Case, script: u64) {
+    let model = flat();
+    let round = round_of(&model, case.image, case.tape);
     let run = run_for(case.image, case.tape, MOST);
     let twice = case.steps.saturating_mul(2);
     let mut straight = Rig::begin(Hostile::new(case.budget, 0, script));
-    go(rt, &mut straight, case, twice, 0);
+    go(rt, &mut straight, &round, twice, 0);
     ends_as(rt, &straight, &run, case);
     let mut interrupted = Rig::begin(Hostile::new(case.budget, 0, script));
-    go(rt, &mut interrupted, case, MOST, 3);
+    go(rt, &mut interrupted, &round, MOST, 3);
     ends_as(rt, &interrupted, &run, case);
 }
 
@@ -64,19 +67,20 @@ fn hold(rt: HostRuntime) {
     }
 }
 
-// The number of the certifier's refusal, 0 where it accepts.
-fn refused(case: &Case, budget: u64) -> u8 {
-    match verdict(case.image, &flat(), budget) {
-        Ok(()) => 0,
-        Err(refusal) => refusal.number(),
-    }
+// The number of the certifier's refusal.
+fn refused(case: &Case, budget: u64) -> Option<u8> {
+    let model = &flat();
+    Certifier { model, budget }
+        .verdict(case.image)
+        .err()
+        .map(|refusal| refusal.number())
 }
 
 // The budgets are the least at which the rounds are accepted.
 #[test]
 fn are_accepted(rt: HostRuntime) {
     for case in &CASES {
-        assert_eq!(rt; refused(case, case.budget), 0);
-        assert_eq!(rt; refused(case, case.budget.saturating_sub(1)), 10);
+        assert_eq!(rt; refused(case, case.budget), None);
+        assert_eq!(rt; refused(case, case.budget.saturating_sub(1)), Some(10));
     }
 }

@@ -1,8 +1,8 @@
 // The six-slot round on a capacitor that holds four steps of it.
-use crate::alike::ending_number;
-use crate::cases::{ROUND, flat};
+use crate::cases::{ROUND, flat, round_of};
 use claims::call::Call;
 use claims::reply::Reply;
+use machine::ending::Ending;
 use rig::rehearse::rehearse;
 use rig::rig::Rig;
 use std::process::Abort;
@@ -27,21 +27,24 @@ static WITH_A_CUT: [Call; 10] = [
 
 fn rehearsed(capacitor: Capacitor, calls: &[Call]) -> Rig<Capacitor> {
     let mut replies = [Reply::Count(0); 10];
-    rehearse(capacitor, &flat(), ROUND, &[5], calls, &mut replies)
+    rehearse(
+        capacitor,
+        &round_of(&flat(), ROUND, &[5]),
+        calls,
+        &mut replies,
+    )
 }
 
 fn ends_with(rt: &impl Abort, calls: &[Call], charges: u64, attempts: u32) -> Result<(), Fail> {
-    match Capacitor::new(16, 3_000, 2_000, 1_000_000) {
-        Ok(capacitor) => {
-            let rig = rehearsed(capacitor, calls);
-            assert_eq!(rt; rig.charges(), charges);
-            assert_eq!(rt; rig.saves(), 1);
-            assert_eq!(rt; rig.attempts(), attempts);
-            assert_eq!(rt; ending_number(rig.kept().ending()), 5);
-            Ok(())
-        }
-        Err(refusal) => Err(Fail::new(refusal.number())),
-    }
+    let capacitor = Capacitor::new(16, 3_000, 2_000, 1_000_000).map_err(|refusal| Fail::new(
+        refusal.number(),
+    ))?;
+    let rig = rehearsed(capacitor, calls);
+    assert_eq!(rt; rig.charges(), charges);
+    assert_eq!(rt; rig.saves(), 1);
+    assert_eq!(rt; rig.attempts(), attempts);
+    assert_eq!(rt; rig.kept().ending(), Some(Ending::Exit));
+    Ok(())
 }
 
 #[test]

@@ -6,9 +6,8 @@ use Rattle.rig.proofs.plan.planned.Goals as goal
 pub returns : goal.returns
 unfolding amount_of
 returns g c =
-    let told = c.step-effect.ensures.effect in
     record {
       next_is = c.step-effect.ensures.left;
       amount_is = search rules;
-      saves_is = c.is_save.ensures ∙ ap is_save told;
+      saves_is = c.is_save.ensures ∙ ap is_save c.step-effect.ensures.effect;
     }

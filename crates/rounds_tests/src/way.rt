@@ -3,9 +3,10 @@
 // records were worked out from that source and its tape; prices, saves and counts
 // by a search over the walks and an interpreter that share nothing with this
 // repository's.
-use certifier::certify::verdict;
+use certifier::certify::Certifier;
 use claims::call::Call;
 use claims::reply::Reply;
+use claims::round::Round;
 use isa::image::instruction_at;
 use isa::instruction::Role;
 use isa::lawful::lawful;
@@ -80,23 +81,24 @@ static CHANNELS: Case = Case {
 // what the capacitor holds, 75 microfarads from 3 V to 1 V
 const BUDGET: u64 = 300;
 
+const CERTIFIER: Certifier<OperandModel> = Certifier {
+    model: &OperandModel,
+    budget: BUDGET,
+};
+
 fn over_budget(rt: &impl Abort, case: &Case) -> Result<(), Fail> {
-    match verdict(case.image, &OperandModel, BUDGET) {
-        Ok(()) => Err(Fail::new("accepted as compiled")),
-        Err(refusal) => {
-            assert_eq!(rt; refusal.number(), 10);
-            assert_eq!(rt; refusal.slot(), 0);
-            assert_eq!(rt; refusal.price(), case.dearest);
-            Ok(())
-        }
-    }
+    let refusal = CERTIFIER
+        .verdict(case.image)
+        .err()
+        .ok_or("accepted as compiled")?;
+    assert_eq!(rt; refusal.number(), 10);
+    assert_eq!(rt; refusal.slot(), 0);
+    assert_eq!(rt; refusal.price(), case.dearest);
+    Ok(())
 }
 
 fn is_save(image: &[u8], slot: u16) -> bool {
-    match instruction_at(image, slot) {
-        Some(instruction) => instruction.role() == Role::Save,
-        None => false,
-    }
+    instruction_at(image, slot).is_some_and(|instruction| instruction.role() == Role::Save)
 }
 
 // The slots that are saves now are the round's own and the ones named.
@@ -108,8 +110,7 @@ fn check_saves(rt: &impl Abort, case: &Case, image: &[u8]) {
 }
 
 fn placed(image: &mut [u8]) -> Result<(), Refusal> {
-    let mut working = [Worth { price: 0, slot: 0 }; 1024];
-    place(image, &OperandModel, BUDGET, &mut working)
+    place(image, &CERTIFIER, &mut [Worth::default(); 1024])
 }
 
 const MOST_CALLS: usize = 500;
@@ -119,7 +120,12 @@ fn rehearsed(capacitor: Capacitor, image: &[u8], tape: &[u32]) -> Rig<Capacitor>
     let mut calls = [Call::Step; MOST_CALLS];
     calls[30] = Call::Cut;
     let mut replies = [Reply::Count(0); MOST_CALLS];
-    rehearse(capacitor, &OperandModel, image, tape, &calls, &mut replies)
+    let round = Round {
+        model: &OperandModel,
+        image,
+        tape,
+    };
+    rehearse(capacitor, &round, &calls, &mut replies)
 }
 
 fn check_log(rt: &impl Abort, rig: &Rig<Capacitor>, log: &[(u8, u64)]) -> Result<(), Fail> {
@@ -149,13 +155,11 @@ fn goes_well(rt: &(impl Abort + AllocGlobal), case: &Case) -> Result<(), Fail> {
     let mut image = case.image.to_vec(rt.alloc())?;
     assert!(rt; placed(image.as_mut_slice()).is_ok());
     check_saves(rt, case, image.as_slice());
-    match Capacitor::new(75, 3_000, 1_000, 1_000_000) {
-        Ok(capacitor) => {
-            assert_eq!(rt; capacitor.budget(), BUDGET);
-            ends_well(rt, &rehearsed(capacitor, image.as_slice(), case.tape), case)
-        }
-        Err(refusal) => Err(Fail::new(refusal.number())),
-    }
+    let capacitor = Capacitor::new(75, 3_000, 1_000, 1_000_000).map_err(|refusal| Fail::new(
+        refusal.number(),
+    ))?;
+    assert_eq!(rt; capacitor.budget(), BUDGET);
+    ends_well(rt, &rehearsed(capacitor, image.as_slice(), case.tape), case)
 }
 
 #[test]

@@ -26,23 +26,18 @@ last cs = course round cs (first initial (fresh small))
 known : (cs : List Call) (charges saves attempts : ℕ) → Told (last cs) charges saves attempts → Known cs charges saves attempts
 known cs charges saves attempts t s new replies r h =
     let same : bare r ≡ last cs = followed round s cs replies r h ∙ ap (λ (k : Condition). course round cs (first initial k)) new in
-    record {
-      charges_are = ap charges_of same ∙ t.charges_are;
-      saves_are = ap (λ (w : Bare). w.saves) same ∙ t.saves_are;
-      attempts_are = ap (λ (w : Bare). w.attempts) same ∙ t.attempts_are;
-      exits = ap (λ (w : Bare). w.kept.ending) same ∙ t.exits;
-    }
+    let told : Told (bare r) charges saves attempts = rw same t in
+    record { charges_are = told.charges_are; saves_are = told.saves_are; attempts_are = told.attempts_are; exits = told.exits }
 
-straight_told : Told (last (steps 7)) 2 1 7
+told : Told (last (steps 7)) 2 1 7 × Told (last (Step ∷ Step ∷ Cut ∷ steps 7)) 3 1 9
 unfolding amount_of mains_step mains_effect kind_of singles classes joined access branch arithmetic negation sizes tests operations under source_of code_of class_of
-straight_told = record { charges_are = refl; saves_are = refl; attempts_are = refl; exits = refl }
-
-interrupted_told : Told (last (Step ∷ Step ∷ Cut ∷ steps 7)) 3 1 9
-unfolding amount_of mains_step mains_effect kind_of singles classes joined access branch arithmetic negation sizes tests operations under source_of code_of class_of
-interrupted_told = record { charges_are = refl; saves_are = refl; attempts_are = refl; exits = refl }
+told = (
+  record { charges_are = refl; saves_are = refl; attempts_are = refl; exits = refl },
+  record { charges_are = refl; saves_are = refl; attempts_are = refl; exits = refl },
+)
 
 pub straight : Known (steps 7) 2 1 7
-straight = known (steps 7) 2 1 7 straight_told
+straight = known (steps 7) 2 1 7 told.0
 
 pub interrupted : Known (Step ∷ Step ∷ Cut ∷ steps 7) 3 1 9
-interrupted = known (Step ∷ Step ∷ Cut ∷ steps 7) 3 1 9 interrupted_told
+interrupted = known (Step ∷ Step ∷ Cut ∷ steps 7) 3 1 9 told.1

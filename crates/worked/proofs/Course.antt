@@ -5,7 +5,7 @@
 --     after m c w        after one call
 --     course m cs w      after the calls cs, the oldest first
 --     followed           every history comes to the course of its calls
-use Rattle.std.proofs.Common.{◌≡◌, ◌+◌, Bool, true, false, cond, ◌||◌, leb, List, [], ◌∷◌, ◌++◌, Result, sym, refl, ap, ◌∙◌}
+use Rattle.std.proofs.Common.{◌≡◌, ◌+◌, Bool, if◌then◌else◌, ◌||◌, nat_le, List, [], ◌∷◌, ◌++◌, Result, sym, refl, ap, ◌∙◌}
 use Rattle.std.proofs.lemmas.Bool.{le-leb, lt-leb}
 use Rattle.isa.specs.declared.refusal.Refusal.{Refusal}
 use Rattle.machine.specs.declared.state.State.{State}
@@ -19,7 +19,7 @@ use Rattle.claims.specs.declared.reply.Attempt.{Attempt}
 use Rattle.claims.specs.declared.reply.Reply.{Reply}
 use Rattle.claims.specs.History.{Called, History, History.begun_on, History.called}
 use Rattle.claims.specs.Machine.{Machine}
-use Rattle.claims.specs.Rig.{Rig, attempt_limit, cut_limit, Stepped, Stepped.refused_ended, Stepped.refused_attempts, Stepped.went, Stepped.fell, CutDone, CutDone.refused_ended as cut-ended, CutDone.refused_cuts, CutDone.done}
+use Rattle.claims.specs.Rig.{Rig, attempt_limit, cut_limit, FellBack, Stepped, Stepped.refused_ended, Stepped.refused_attempts, Stepped.went, Stepped.fell, CutDone, CutDone.refused_ended as cut-ended, CutDone.refused_cuts, CutDone.done}
 use Rattle.worked.specs.Known.{capacitors}
 
 abbrev pub Bare : Type 0
@@ -42,7 +42,17 @@ first start k = record { supply = filled k; state = start; kept = start; before 
 
 -- a call is made unless the round has ended or the limit is reached
 abbrev unless : {A : Type 0} → Bool → Bool → A → A → A
-unless ended many w w' = cond ended w (cond many w w')
+unless ended many w w' = if ended || many then w else w'
+
+-- a charge begins, and the kept state returns
+abbrev back : Bare → Bare
+back w = record w { supply = filled w.supply; state = w.kept }
+
+alike : {v w : Bare} → v.supply ≡ w.supply → v.state ≡ w.state → v.kept ≡ w.kept → v.before ≡ w.before → v.saves ≡ w.saves → v.cuts ≡ w.cuts → v.attempts ≡ w.attempts → v ≡ w
+alike a b c d e f g = λ i. record { supply = a i; state = b i; kept = c i; before = d i; saves = e i; cuts = f i; attempts = g i }
+
+fallen : {r r' : Rig Capacitor State} → FellBack capacitors r r' → bare r' ≡ back (bare r)
+fallen x = alike x.charged x.state_is x.kept_is x.before_is x.saves_is x.cuts_is x.attempts_is
 
 module _ (m : Machine State) where
   abbrev answered : Answer → Bare → Bare
@@ -51,50 +61,20 @@ module _ (m : Machine State) where
       record {
         supply = drawn w.supply (m.amount w.kept w.state);
         state = next;
-        kept = cond (m.saves w.state || m.run.ended next) next w.kept;
+        kept = if m.saves w.state || m.run.ended next then next else w.kept;
         before = w.before;
-        saves = cond (m.saves w.state) (w.saves + 1) w.saves;
+        saves = if m.saves w.state then w.saves + 1 else w.saves;
         cuts = w.cuts;
         attempts = w.attempts + 1;
       }
-  answered No w =
-      record {
-        supply = filled (drawn w.supply (m.amount w.kept w.state));
-        state = w.kept;
-        kept = w.kept;
-        before = w.before;
-        saves = w.saves;
-        cuts = w.cuts;
-        attempts = w.attempts + 1;
-      }
+  answered No w = back (record w { supply = drawn w.supply (m.amount w.kept w.state); attempts = w.attempts + 1 })
 
   abbrev attempted : Bare → Bare
   attempted w = answered (answer_to w.supply (m.amount w.kept w.state)) w
 
-  abbrev cut_off : Bare → Bare
-  cut_off w =
-      record {
-        supply = filled w.supply;
-        state = w.kept;
-        kept = w.kept;
-        before = w.before;
-        saves = w.saves;
-        cuts = w.cuts + 1;
-        attempts = w.attempts;
-      }
-
-  abbrev over : Bare → Bool
-  over w = m.run.ended w.kept
-
-  abbrev all_attempts : Bare → Bool
-  all_attempts w = leb attempt_limit w.attempts
-
-  abbrev all_cuts : Bare → Bool
-  all_cuts w = leb cut_limit w.cuts
-
   abbrev pub after : Call → Bare → Bare
-  after call.Step w = unless (over w) (all_attempts w) w (attempted w)
-  after call.Cut w = unless (over w) (all_cuts w) w (cut_off w)
+  after call.Step w = unless (m.run.ended w.kept) (nat_le attempt_limit w.attempts) w (attempted w)
+  after call.Cut w = unless (m.run.ended w.kept) (nat_le cut_limit w.cuts) w (back (record w { cuts = w.cuts + 1 }))
   after call.Charges w = w
   after call.Saves w = w
   after call.Cuts w = w
@@ -109,62 +89,23 @@ module _ (m : Machine State) where
   course_more [] c w = refl
   course_more (d ∷ cs) c w = course_more cs c (after d w)
 
-  at_end : (ended many : Bool) (w w' : Bare) → ended ≡ true → w ≡ unless ended many w w'
-  at_end ended many w w' e = sym (ap (λ (b : Bool). unless b many w w') e)
-
-  before_end : (ended many b : Bool) (w w' : Bare) → ended ≡ false → many ≡ b → cond b w w' ≡ unless ended many w w'
-  before_end ended many b w w' e f = sym (ap (λ (x : Bool). unless x many w w') e ∙ ap (λ (x : Bool). cond x w w') f)
-
   step_made : (r r' : Rig Capacitor State) (a : Result Attempt Refusal) → Stepped capacitors m r a r' → bare r' ≡ after call.Step (bare r)
-  step_made r r' a (refused_ended e said same) =
-      let w = bare r in ap bare same ∙ at_end (over w) (all_attempts w) w (attempted w) e
-  step_made r r' a (refused_attempts e many said same) =
-      let w = bare r in
-      ap bare same ∙ before_end (over w) (all_attempts w) true w (attempted w) e (le-leb attempt_limit r.attempts many)
+  step_made r r' a (refused_ended e said same) = rw e (ap bare same)
+  step_made r r' a (refused_attempts e many said same) = rw (e, le-leb attempt_limit r.attempts many) (ap bare same)
   step_made r r' a (went e few said x) =
-      let w = bare r in
-      let left : bare r' ≡ answered Yes w = λ i. record {
-        supply = x.drawn.leaves i;
-        state = x.state_is i;
-        kept = x.kept_is i;
-        before = x.before_is i;
-        saves = x.saves_is i;
-        cuts = x.cuts_is i;
-        attempts = x.attempts_is i;
-      } in
-      left ∙ ap (λ (y : Answer). answered y w) x.drawn.answers
-      ∙ before_end (over w) (all_attempts w) false w (attempted w) e (lt-leb attempt_limit r.attempts few)
+      let left : bare r' ≡ answered Yes (bare r) =
+      alike x.drawn.leaves x.state_is x.kept_is x.before_is x.saves_is x.cuts_is x.attempts_is in
+      rw (e, lt-leb attempt_limit r.attempts few) (left ∙ ap (λ (y : Answer). answered y (bare r)) x.drawn.answers)
   step_made r r' a (fell e few said x) =
-      let w = bare r in
-      let left : bare r' ≡ answered No w = λ i. record {
-        supply = (x.charged ∙ ap filled x.drawn.leaves) i;
-        state = x.state_is i;
-        kept = x.kept_is i;
-        before = x.before_is i;
-        saves = x.saves_is i;
-        cuts = x.cuts_is i;
-        attempts = x.attempts_is i;
-      } in
-      left ∙ ap (λ (y : Answer). answered y w) x.drawn.answers
-      ∙ before_end (over w) (all_attempts w) false w (attempted w) e (lt-leb attempt_limit r.attempts few)
+      let left : bare r' ≡ answered No (bare r) =
+      fallen x.back ∙ ap (λ (k : Condition). back (record (bare r) { supply = k; attempts = r.attempts + 1 })) x.drawn.leaves in
+      rw (e, lt-leb attempt_limit r.attempts few) (left ∙ ap (λ (y : Answer). answered y (bare r)) x.drawn.answers)
 
   cut_made : (r r' : Rig Capacitor State) (a : Result (Unit {0}) Refusal) → CutDone capacitors m.run.ended r a r'
       → bare r' ≡ after call.Cut (bare r)
-  cut_made r r' a (cut-ended e said same) = let w = bare r in ap bare same ∙ at_end (over w) (all_cuts w) w (cut_off w) e
-  cut_made r r' a (refused_cuts e many said same) =
-      let w = bare r in ap bare same ∙ before_end (over w) (all_cuts w) true w (cut_off w) e (le-leb cut_limit r.cuts many)
-  cut_made r r' a (done e few said x) =
-      let w = bare r in
-      let left : bare r' ≡ cut_off w = λ i. record {
-        supply = x.charged i;
-        state = x.state_is i;
-        kept = x.kept_is i;
-        before = x.before_is i;
-        saves = x.saves_is i;
-        cuts = x.cuts_is i;
-        attempts = x.attempts_is i;
-      } in
-      left ∙ before_end (over w) (all_cuts w) false w (cut_off w) e (lt-leb cut_limit r.cuts few)
+  cut_made r r' a (cut-ended e said same) = rw e (ap bare same)
+  cut_made r r' a (refused_cuts e many said same) = rw (e, le-leb cut_limit r.cuts many) (ap bare same)
+  cut_made r r' a (done e few said x) = rw (e, lt-leb cut_limit r.cuts few) (fallen x)
 
   call_made : (c : Call) (r r' : Rig Capacitor State) (a : Reply) → Called capacitors m c r a r' → bare r' ≡ after c (bare r)
   call_made call.Step r r' a d = step_made r r' d.0 d.2
@@ -177,14 +118,6 @@ module _ (m : Machine State) where
 
   pub followed : (s : Capacitor) (cs : List Call) (replies : List Reply) (r : Rig Capacitor State) → History capacitors m s cs replies r
       → bare r ≡ course cs (first m.run.start (condition_of s))
-  followed s _ _ _ (begun_on b) = λ i. record {
-    supply = b.charged i;
-    state = b.state_is i;
-    kept = b.kept_is i;
-    before = b.before_is i;
-    saves = b.saves_is i;
-    cuts = b.cuts_is i;
-    attempts = b.attempts_is i;
-  }
+  followed s _ _ _ (begun_on b) = alike b.charged b.state_is b.kept_is b.before_is b.saves_is b.cuts_is b.attempts_is
   followed s _ _ _ (called {cs = cs} {replies = replies} {r = r} {r' = r'} c a h d) =
       call_made c r r' a d ∙ ap (after c) (followed s cs replies r h) ∙ sym (course_more cs c (first m.run.start (condition_of s)))

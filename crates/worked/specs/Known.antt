@@ -12,10 +12,9 @@ use Rattle.machine.specs.declared.ending.Ending.TheVariants.{Exit}
 use Rattle.machine.specs.declared.state.State.{State}
 use Rattle.pricing.specs.Flat.{flat}
 use Rattle.supply.specs.declared.capacitor.Capacitor.{Capacitor}
-use Rattle.supply.specs.declared.ratings.Ratings.{Ratings}
 use Rattle.supply.specs.declared.supply.Supply.{Ghosts}
 use Rattle.supply.specs.Capacitor.{Drew, condition_of, filled, four_in, fresh}
-use Rattle.supply.specs.Ratings.{ratings_of}
+use Rattle.supply.specs.Ratings.{Ratings, ratings_of}
 use Rattle.claims.specs.declared.call.Call.{Call}
 use Rattle.claims.specs.declared.call.Call.TheVariants.{Step}
 use Rattle.claims.specs.declared.reply.Reply.{Reply}

@@ -6,21 +6,21 @@ ghost use Rattle.worked.specs.Known.{capacitors};
 
 use claims::call::Call;
 use claims::reply::Reply;
+use claims::round::Round;
 use pricing::flat::FlatModel;
 use rig::rehearse::rehearse;
 use rig::rig::Rig;
 use supply::capacitor::Capacitor;
 
 // Its histories are those of which the counts are known.
+// Stays: only a contract at the type ties what is known to what a capacitor of the code means.
 pub fn rehearse_on_capacitor(
     capacitor: Capacitor,
-    model: &FlatModel,
-    image: &[u8],
-    tape: &[u32],
+    round: &Round<FlatModel>,
     calls: &[Call],
     replies: &mut [Reply],
 ) -> Rig<Capacitor>
-    ensures { Rehearsed capacitors (flat model.now.prices) image.now tape.now capacitor calls.now replies.old replies.new (seen result) }
+    ensures { Rehearsed capacitors (λ model. flat model.prices) round.now capacitor calls.now replies.old replies.new (seen result) }
 {
-    rehearse(capacitor, model, image, tape, calls, replies)
+    rehearse(capacitor, round, calls, replies)
 }

@@ -1,5 +1,6 @@
 // Images to time: many slots and no loop.
 use std::alloc::{AllocError, Global};
+use std::ops::Range;
 
 const ADD: [u8; 8] = [0x07, 0x01, 0, 0, 1, 0, 0, 0];
 
@@ -18,40 +19,39 @@ pub const ARITHMETIC: &[u8; 16] = b"\x07\x01\0\0\x01\0\0\0\x05\0\xfe\xff\0\0\0\0
 // a save, without end
 pub const SAVING: &[u8; 16] = b"\x85\0\0\0\x01\0\0\0\x05\0\xfe\xff\0\0\0\0";
 
-fn push(image: &mut Vec<u8>, slot: [u8; 8]) -> Result<(), AllocError> {
-    for byte in slot {
-        image.push(byte)?;
+// A slot for each number by a rule, and EXIT.
+fn ruled<F: Fn(usize) -> [u8; 8]>(
+    heap: Global,
+    numbers: Range<usize>,
+    rule: F,
+) -> Result<Vec<u8>, AllocError>
+    requires { F.IsAlwaysCallable rule }
+{
+    let mut image = Vec::new(heap);
+    for number in numbers {
+        image.extend_from_slice(&rule(number))?;
     }
-    Ok(())
+    image.extend_from_slice(&EXIT)?;
+    Ok(image)
 }
 
 // Additions, and EXIT.
 pub fn straight(heap: Global, slots: usize) -> Result<Vec<u8>, AllocError> {
-    let mut image = Vec::new(heap);
-    for _ in 1..slots {
-        push(&mut image, ADD)?;
-    }
-    push(&mut image, EXIT)?;
-    Ok(image)
+    ruled(heap, 1..slots, |_| ADD)
 }
 
 // A reading in every 42 slots, and idle slots between them: 1,000 of 1,024.
 pub fn idling(heap: Global, slots: usize) -> Result<Vec<u8>, AllocError> {
-    let mut image = Vec::new(heap);
-    for slot in 1..slots {
-        push(&mut image, if slot % 44 == 1 { READING } else { IDLE })?;
-    }
-    push(&mut image, EXIT)?;
-    Ok(image)
+    ruled(heap, 1..slots, |slot| {
+        if slot % 44 == 1 { READING } else { IDLE }
+    })
 }
 
-// Every second slot a conditional jump over the next one.
+// Every second slot a conditional jump over the next one, and EXIT twice.
 pub fn forking(heap: Global, slots: usize) -> Result<Vec<u8>, AllocError> {
-    let mut image = Vec::new(heap);
-    for slot in 2..slots {
-        push(&mut image, if slot % 2 == 0 { FORK } else { ADD })?;
-    }
-    push(&mut image, EXIT)?;
-    push(&mut image, EXIT)?;
+    let mut image = ruled(heap, 2..slots, |slot| {
+        if slot % 2 == 0 { FORK } else { ADD }
+    })?;
+    image.extend_from_slice(&EXIT)?;
     Ok(image)
 }

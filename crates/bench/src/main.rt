@@ -4,35 +4,39 @@
 
 mod images;
 mod steps;
+mod timing;
 
-use certifier::certify::certify;
+use certifier::certify::Certifier;
 use images::{forking, idling, straight};
 use paths::worth::Worth;
 use placer::place::place;
 use pricing::operand::OperandModel;
-use std::time::Instant;
 use steps::time_steps;
+use timing::timed;
 
 const CALLS: u32 = 200;
 
 const BUDGET: u64 = 100_000_000;
 
-// How many of the calls accept the image.
-fn certify_often(image: &[u8], working: &mut [Worth]) -> u32 {
-    let mut accepted = 0u32;
-    for _ in 0..CALLS {
-        if certify(image, &OperandModel, BUDGET, working).is_ok() {
-            accepted = accepted.saturating_add(1);
-        }
+fn at(budget: u64) -> Certifier<'static, OperandModel> {
+    Certifier {
+        model: &OperandModel,
+        budget,
     }
-    accepted
 }
 
+// How many of the calls accept the image.
+fn certify_often(image: &[u8], working: &mut [Worth]) -> usize {
+    (0..CALLS)
+        .filter(|_| at(BUDGET).certify(image, working).is_ok())
+        .count()
+}
+
+// Stays: the name is only printed.
 fn time_one(rt: &HostRuntime, name: &str, image: &[u8]) -> anyhow::Result<()> {
-    let mut working = [Worth { price: 0, slot: 0 }; 1024];
-    let begun = Instant::now(rt)?;
-    let accepted = certify_often(image, &mut working);
-    let micros = begun.elapsed(rt)?.as_micros() / CALLS as u128;
+    let mut working = [Worth::default(); 1024];
+    let (accepted, took) = timed(rt, || certify_often(image, &mut working))?;
+    let micros = took.as_micros() / CALLS as u128;
     let slots = image.len() / 8;
     println!(rt; "certify {name} {slots} slots: {accepted} accepted")?;
     eprintln!(rt; "certify {name} {slots} slots: {micros} us")?;
@@ -42,16 +46,14 @@ fn time_one(rt: &HostRuntime, name: &str, image: &[u8]) -> anyhow::Result<()> {
 // A budget at which the round of readings needs saves.
 const LITTLE: u64 = 600;
 
-fn place_once(image: &mut [u8], working: &mut [Worth]) -> bool {
-    place(image, &OperandModel, LITTLE, working).is_ok()
-}
-
 fn time_placing(rt: &HostRuntime, image: &[u8]) -> anyhow::Result<()> {
-    let mut working = [Worth { price: 0, slot: 0 }; 1024];
+    let mut working = [Worth::default(); 1024];
     let mut placed = image.to_vec(rt.alloc())?;
-    let begun = Instant::now(rt)?;
-    let done = place_once(placed.as_mut_slice(), &mut working);
-    let micros = begun.elapsed(rt)?.as_micros();
+    let (answer, took) = timed(rt, || {
+        place(placed.as_mut_slice(), &at(LITTLE), &mut working)
+    })?;
+    let done = answer.is_ok();
+    let micros = took.as_micros();
     let slots = image.len() / 8;
     println!(rt; "place idling {slots} slots: {done}")?;
     eprintln!(rt; "place idling {slots} slots: {micros} us")?;

@@ -1,37 +1,38 @@
 // Times steps: the machine by itself, and a rig on the mains.
 use crate::images::{ARITHMETIC, SAVING};
+use crate::timing::timed;
+use claims::round::Round;
 use machine::run::run_for;
 use pricing::operand::OperandModel;
 use rig::rig::Rig;
-use std::time::Instant;
 use supply::mains::Mains;
 
 const STEPS: u64 = 1_000_000;
 
-fn step_alone(image: &[u8]) -> u64 {
-    run_for(image, &[], STEPS).steps
-}
-
+// Stays: a struct of name and image is longer at each call than the two.
 fn time_machine(rt: &HostRuntime, name: &str, image: &[u8]) -> anyhow::Result<()> {
-    let begun = Instant::now(rt)?;
-    let steps = step_alone(image);
-    let millis = begun.elapsed(rt)?.as_millis();
+    let (steps, took) = timed(rt, || run_for(image, &[], STEPS).steps)?;
+    let millis = took.as_millis();
     println!(rt; "machine {name}: {steps} steps")?;
     eprintln!(rt; "machine {name}: {millis} ms")?;
     Ok(())
 }
 
 fn step_often(rig: &mut Rig<Mains>, image: &[u8]) {
+    let round = Round {
+        model: &OperandModel,
+        image,
+        tape: &[],
+    };
     for _ in 0..STEPS {
-        let _ = rig.step(&OperandModel, image, &[]);
+        let _ = rig.step(&round);
     }
 }
 
 fn time_rig(rt: &HostRuntime, name: &str, image: &[u8]) -> anyhow::Result<()> {
     let mut rig = Rig::begin(Mains::new());
-    let begun = Instant::now(rt)?;
-    step_often(&mut rig, image);
-    let millis = begun.elapsed(rt)?.as_millis();
+    let ((), took) = timed(rt, || step_often(&mut rig, image))?;
+    let millis = took.as_millis();
     println!(rt;
         "rig {name}: {} attempts, {} saves",
         rig.attempts(),

@@ -1,7 +1,7 @@
 // What the command line asks for.
 use crate::run::MOST_STEPS;
-use crate::supplies::{Source, read_source};
-use anyhow::anyhow;
+use crate::supplies::Source;
+use anyhow::{Context, bail};
 use std::alloc::Global;
 use std::env;
 
@@ -9,29 +9,20 @@ use std::env;
 pub enum Command {
     // no argument: the guided task
     Guide,
-    List {
-        file: String,
-    },
-    Certify {
-        file: String,
-        budget: u64,
-        // none: the operand model
-        prices: Option<String>,
-    },
-    Place {
-        file: String,
-        budget: u64,
-        out: String,
-        // none: the operand model
-        prices: Option<String>,
-    },
-    Run {
-        file: String,
-        tape: String,
-        source: Source,
-        options: Options,
-    },
+    List { file: String },
+    Certify(Question),
+    Place { question: Question, out: String },
+    Run(Rehearsal),
     Help,
+}
+
+// A round, and what its stretches should fit.
+#[derive(Drop)]
+pub struct Question {
+    pub file: String,
+    pub budget: u64,
+    // none: the operand model
+    pub prices: Option<String>,
 }
 
 const BUDGET_USE: &str = "a budget is a number, 1 to 100000000";
@@ -47,67 +38,63 @@ const PLACE_USE: &str =
 const RUN_USE: &str =
     "run takes a file, a tape and a supply: yatesorrel run ROUND TAPE SUPPLY [--prices FILE] [--cut N]... [--steps N]";
 
-// The words after the program's name.
-fn words(rt: &HostRuntime) -> anyhow::Result<Vec<String>> {
-    let mut words = Vec::new(rt.alloc());
-    for word in env::args(rt)?.skip(1) {
-        words.push(word)?;
-    }
-    Ok(words)
-}
-
 fn read_list(words: &[String]) -> anyhow::Result<Command> {
     match words {
-        [_, file] => Ok(Command::List {
+        [file] => Ok(Command::List {
             file: file.clone()?,
         }),
-        _ => Err(anyhow!(LIST_USE)),
+        _ => bail!(LIST_USE),
     }
 }
 
 fn read_number(word: &str, wrong: &str) -> anyhow::Result<u64> {
-    match word.parse::<u64>() {
-        Ok(number) => Ok(number),
-        Err(_) => Err(anyhow!(wrong)),
+    word.parse::<u64>().ok().context(wrong)
+}
+
+// The option that certify and place share.
+fn read_prices(words: &[String], wrong: &str) -> anyhow::Result<Option<String>> {
+    match words {
+        [] => Ok(None),
+        [option, file] if option.as_str() == "--prices" => Ok(Some(file.clone()?)),
+        _ => bail!(wrong),
     }
 }
 
 fn read_certify(words: &[String]) -> anyhow::Result<Command> {
-    let (file, budget, prices) = match words {
-        [_, file, budget] => (file, budget, None),
-        [_, file, budget, option, prices] if option.as_str() == "--prices" => (
-            file,
-            budget,
-            Some(prices.clone()?),
-        ),
-        _ => return Err(anyhow!(CERTIFY_USE)),
+    let [file, budget, rest @ ..] = words else {
+        bail!(CERTIFY_USE);
     };
-    let budget = read_number(budget.as_str(), BUDGET_USE)?;
-    Ok(Command::Certify {
+    let prices = read_prices(rest, CERTIFY_USE)?;
+    Ok(Command::Certify(Question {
         file: file.clone()?,
-        budget,
+        budget: read_number(budget.as_str(), BUDGET_USE)?,
         prices,
-    })
+    }))
 }
 
 fn read_place(words: &[String]) -> anyhow::Result<Command> {
-    let (file, budget, out, prices) = match words {
-        [_, file, budget, out] => (file, budget, out, None),
-        [_, file, budget, out, option, prices] if option.as_str() == "--prices" => (
-            file,
-            budget,
-            out,
-            Some(prices.clone()?),
-        ),
-        _ => return Err(anyhow!(PLACE_USE)),
+    let [file, budget, out, rest @ ..] = words else {
+        bail!(PLACE_USE);
     };
-    let budget = read_number(budget.as_str(), BUDGET_USE)?;
-    Ok(Command::Place {
+    let prices = read_prices(rest, PLACE_USE)?;
+    let question = Question {
         file: file.clone()?,
-        budget,
-        out: out.clone()?,
+        budget: read_number(budget.as_str(), BUDGET_USE)?,
         prices,
+    };
+    Ok(Command::Place {
+        question,
+        out: out.clone()?,
     })
+}
+
+// A round, its tape and its supply, and how it is run.
+#[derive(Drop)]
+pub struct Rehearsal {
+    pub file: String,
+    pub tape: String,
+    pub source: Source,
+    pub options: Options,
 }
 
 // What comes behind the supply.
@@ -128,7 +115,7 @@ fn take_option(options: &mut Options, name: &str, value: &String) -> anyhow::Res
         "--steps" => options.steps = read_number(value.as_str(), "--steps takes a number")?.min(
             MOST_STEPS,
         ),
-        _ => return Err(anyhow!(RUN_USE)),
+        _ => bail!(RUN_USE),
     }
     Ok(())
 }
@@ -142,38 +129,36 @@ fn read_options(heap: Global, words: &[String]) -> anyhow::Result<Options> {
     for pair in words.chunks(2) {
         match pair {
             [name, value] => take_option(&mut options, name.as_str(), value)?,
-            _ => return Err(anyhow!(RUN_USE)),
+            _ => bail!(RUN_USE),
         }
     }
     Ok(options)
 }
 
 fn read_run(heap: Global, words: &[String]) -> anyhow::Result<Command> {
-    let [_, file, tape, supply, rest @ ..] = words else {
-        return Err(anyhow!(RUN_USE));
+    let [file, tape, supply, rest @ ..] = words else {
+        bail!(RUN_USE);
     };
-    let source = read_source(supply.as_str())?;
-    let options = read_options(heap, rest)?;
-    Ok(Command::Run {
+    Ok(Command::Run(Rehearsal {
         file: file.clone()?,
         tape: tape.clone()?,
-        source,
-        options,
-    })
+        source: supply.as_str().parse::<Source>()?,
+        options: read_options(heap, rest)?,
+    }))
 }
 
 // The command line as a command, or what is wrong with it.
 pub fn read_command(rt: &HostRuntime) -> anyhow::Result<Command> {
-    let words = words(rt)?;
-    let Some(first) = words.first() else {
+    let words: Vec<String> = env::args(rt)?.skip(1).collect(rt.alloc())?;
+    let [first, rest @ ..] = words.as_slice() else {
         return Ok(Command::Guide);
     };
     match first.as_str() {
-        "list" => read_list(words.as_slice()),
-        "certify" => read_certify(words.as_slice()),
-        "place" => read_place(words.as_slice()),
-        "run" => read_run(rt.alloc(), words.as_slice()),
+        "list" => read_list(rest),
+        "certify" => read_certify(rest),
+        "place" => read_place(rest),
+        "run" => read_run(rt.alloc(), rest),
         "help" => Ok(Command::Help),
-        _ => Err(anyhow!("there is no such command; try: yatesorrel help")),
+        _ => bail!("there is no such command; try: yatesorrel help"),
     }
 }

@@ -1,16 +1,17 @@
 // The guided task: one real round from its bytes to a verdict.
 use crate::certify::certify_round;
-use crate::list::{print_refusal, print_roles};
+use crate::list::{print_lawful, print_roles};
 use crate::place::place_saves;
-use crate::rehearsal::{rehearse_round, script};
-use crate::slots::{print_slot, print_slots};
-use crate::verdict::Verdict;
+use crate::rehearsal::script;
+use crate::run::run;
+use crate::slots::{Line, print_slots};
+use crate::supplies::Source;
+use certifier::certify::Certifier;
+use claims::round::Round;
 use isa::lawful::lawful;
-use pricing::operand::OperandModel;
+use pricing::prices::Prices;
 use rounds::piezometer_pair::PIEZOMETER_PAIR;
 use std::io;
-use supply::capacitor::Capacitor;
-use supply::mains::Mains;
 
 // The slot whose jump is damaged, the byte with its distance, and what the
 // byte becomes.
@@ -20,13 +21,6 @@ const DAMAGED_BYTE: usize = 58;
 
 const DAMAGE: u8 = 0x81;
 
-fn print_verdict(rt: &HostRuntime, image: &[u8]) -> io::Result<()> {
-    match lawful(image) {
-        Ok(()) => println!(rt; "lawful"),
-        Err(refusal) => print_refusal(rt, refusal),
-    }
-}
-
 fn show_round(rt: &HostRuntime) -> io::Result<()> {
     println!(rt;
         "A reading round of a piezometer pair, compiled from examples/piezometer_pair.c:"
@@ -35,7 +29,7 @@ fn show_round(rt: &HostRuntime) -> io::Result<()> {
     print_slots(rt, PIEZOMETER_PAIR)?;
     println!(rt)?;
     println!(rt; "Is it lawful? Every opcode, register, field and helper, and every way out:")?;
-    print_verdict(rt, PIEZOMETER_PAIR)?;
+    print_lawful(rt, lawful(PIEZOMETER_PAIR))?;
     println!(rt)?;
     println!(rt; "Where it keeps its state, and where the placer may make it do so:")?;
     print_roles(rt, PIEZOMETER_PAIR)
@@ -45,25 +39,35 @@ fn show_damage(rt: &HostRuntime) -> io::Result<()> {
     let mut damaged = *PIEZOMETER_PAIR;
     damaged[DAMAGED_BYTE] = DAMAGE;
     println!(rt; "One damaged byte, {DAMAGED_BYTE} of the image, sends a jump astray:")?;
-    print_slot(rt, &damaged, DAMAGED_SLOT)?;
-    print_verdict(rt, &damaged)
+    let line = Line {
+        image: &damaged,
+        slot: DAMAGED_SLOT,
+    };
+    println!(rt; "{line}")?;
+    print_lawful(rt, lawful(&damaged))
 }
 
 // Readings of a day on which the head across the core is low.
 const TAPE: [u32; 6] = [812, 815, 813, 590, 588, 604];
 
+fn taped<'a>(prices: &'a Prices, image: &'a [u8]) -> Round<'a, Prices> {
+    Round {
+        model: prices,
+        image,
+        tape: &TAPE,
+    }
+}
+
 // Steps enough for twice the round.
 const STEPS: u64 = 200;
 
-fn show_run(rt: &HostRuntime) -> anyhow::Result<()> {
+fn show_run(rt: &HostRuntime, prices: &Prices) -> anyhow::Result<()> {
     let calls = script(rt.alloc(), STEPS, &[])?;
     println!(rt; "Its run on the mains, over the readings 812 815 813 590 588 604:")?;
-    rehearse_round(
+    run(
         rt,
-        Mains::new(),
-        &OperandModel,
-        PIEZOMETER_PAIR,
-        &TAPE,
+        Source::Mains,
+        &taped(prices, PIEZOMETER_PAIR),
         calls.as_slice(),
     )?;
     println!(rt; "The middle readings are 813 and 590. The head, 223, is below 250: an alarm.")?;
@@ -75,23 +79,30 @@ const LITTLE: u64 = 400;
 
 const ENOUGH: u64 = 500;
 
-fn show_certifying(rt: &HostRuntime) -> io::Result<()> {
+fn at(prices: &Prices, budget: u64) -> Certifier<Prices> {
+    Certifier {
+        model: prices,
+        budget,
+    }
+}
+
+fn show_certifying(rt: &HostRuntime, prices: &Prices) -> io::Result<()> {
     println!(rt; "Does every stretch between saves fit one charge of {LITTLE} units?")?;
-    let _ = certify_round(rt, PIEZOMETER_PAIR, &OperandModel, LITTLE)?;
+    let _ = certify_round(rt, PIEZOMETER_PAIR, &at(prices, LITTLE))?;
     println!(rt)?;
     println!(rt; "And of {ENOUGH}?")?;
-    let _ = certify_round(rt, PIEZOMETER_PAIR, &OperandModel, ENOUGH)?;
+    let _ = certify_round(rt, PIEZOMETER_PAIR, &at(prices, ENOUGH))?;
     Ok(())
 }
 
-fn show_placing(rt: &HostRuntime, placed: &mut [u8]) -> io::Result<()> {
+fn show_placing(rt: &HostRuntime, prices: &Prices, placed: &mut [u8]) -> io::Result<()> {
     println!(rt;
         "With {LITTLE} units, the placer turns idle slots into saves, none of which can be left out:"
     )?;
-    let _ = place_saves(rt, PIEZOMETER_PAIR, placed, &OperandModel, LITTLE)?;
+    let _ = place_saves(rt, PIEZOMETER_PAIR, placed, &at(prices, LITTLE))?;
     println!(rt)?;
     println!(rt; "The round with these saves, at {LITTLE}:")?;
-    let _ = certify_round(rt, placed, &OperandModel, LITTLE)?;
+    let _ = certify_round(rt, placed, &at(prices, LITTLE))?;
     Ok(())
 }
 
@@ -102,48 +113,45 @@ const AGED: u32 = 88;
 
 fn show_capacitor(
     rt: &HostRuntime,
+    prices: &Prices,
     image: &[u8],
     microfarads: u32,
     cuts: &[u64],
 ) -> anyhow::Result<()> {
     let calls = script(rt.alloc(), STEPS, cuts)?;
-    match Capacitor::new(microfarads, 3000, 2000, 625_000) {
-        Ok(capacitor) => rehearse_round(
-            rt,
-            capacitor,
-            &OperandModel,
-            image,
-            &TAPE,
-            calls.as_slice(),
-        ),
-        Err(_) => Ok(()),
-    }
+    let source = Source::Capacitor {
+        microfarads,
+        top: 3000,
+        bottom: 2000,
+        unit: 625_000,
+    };
+    run(rt, source, &taped(prices, image), calls.as_slice())
 }
 
-fn show_rig(rt: &HostRuntime, image: &[u8]) -> anyhow::Result<()> {
+fn show_rig(rt: &HostRuntime, prices: &Prices, image: &[u8]) -> anyhow::Result<()> {
     println!(rt;
         "On a capacitor of {FRESH} microfarads, whose charge is 400 units, cut after 30 steps:"
     )?;
-    show_capacitor(rt, image, FRESH, &[30])?;
+    show_capacitor(rt, prices, image, FRESH, &[30])?;
     println!(rt)?;
     println!(rt;
         "Aged to {AGED} microfarads, its charge is 352 units. The dearest stretch costs 342, so it ends alike:"
     )?;
-    show_capacitor(rt, image, AGED, &[])
+    show_capacitor(rt, prices, image, AGED, &[])
 }
 
-pub fn guide(rt: &HostRuntime) -> anyhow::Result<Verdict> {
+pub fn guide(rt: &HostRuntime) -> anyhow::Result<()> {
+    let prices = Prices::Operand;
     let mut placed = *PIEZOMETER_PAIR;
     show_round(rt)?;
     println!(rt)?;
-    show_run(rt)?;
+    show_run(rt, &prices)?;
     println!(rt)?;
     show_damage(rt)?;
     println!(rt)?;
-    show_certifying(rt)?;
+    show_certifying(rt, &prices)?;
     println!(rt)?;
-    show_placing(rt, &mut placed)?;
+    show_placing(rt, &prices, &mut placed)?;
     println!(rt)?;
-    show_rig(rt, &placed)?;
-    Ok(Verdict::Passed)
+    show_rig(rt, &prices, &placed)
 }

@@ -1,8 +1,5 @@
 // The command `help`.
-use crate::verdict::Verdict;
-use std::io;
-
-const HELP: &str = "yatesorrel checks a logger's reading round before it goes under grout.
+pub const HELP: &str = "yatesorrel checks a logger's reading round before it goes under grout.
 
   yatesorrel              a guided task on a built-in round
   yatesorrel list ROUND   lists an image, and says whether it is lawful
@@ -22,8 +19,3 @@ leaves them of an object that clang -target bpf made. TAPE is text, a reading
 a line. FILE has a price a line, as 0x85 12, for each of the 256 opcode bytes,
 and save 20 for a saving; without it the operand model says the prices.
 A refusal, a bad file and a bad command end with status 1.";
-
-pub fn print_help(rt: &HostRuntime) -> io::Result<Verdict> {
-    println!(rt; "{HELP}")?;
-    Ok(Verdict::Passed)
-}

@@ -3,8 +3,10 @@
 
 mod certify;
 mod command;
+mod files;
 mod guide;
 mod help;
+mod lines;
 mod list;
 mod place;
 mod prices;
@@ -16,159 +18,82 @@ mod tape;
 mod verdict;
 mod walk;
 
-use anyhow::anyhow;
+use certifier::certify::Certifier;
 use certify::certify_round;
-use command::{Command, Options, read_command};
+use claims::round::Round;
+use command::{Command, Question, Rehearsal, read_command};
+use files::{read_image, write_whole};
 use guide::guide;
-use help::print_help;
+use help::HELP;
 use list::list;
 use place::place_saves;
 use prices::read_prices;
-use pricing::operand::OperandModel;
 use rehearsal::script;
 use run::run as run_round;
-use std::fs;
 use std::process::ExitCode;
-use supplies::Source;
 use tape::read_tape;
 use verdict::Verdict;
 
-fn read_image(rt: &HostRuntime, file: &str) -> anyhow::Result<Vec<u8>> {
-    match fs::read(rt, file) {
-        Ok(image) => Ok(image),
-        Err(e) => Err(anyhow!(format!(in rt.alloc(); "cannot read {file}: {e}")?)),
-    }
+fn list_file(rt: &HostRuntime, file: &str) -> anyhow::Result<Verdict> {
+    let image = read_image(rt, file)?;
+    Ok(list(rt, image.as_slice())?)
 }
 
-fn read_text(rt: &HostRuntime, file: &str) -> anyhow::Result<String> {
-    match fs::read_to_string(rt, file) {
-        Ok(text) => Ok(text),
-        Err(e) => Err(anyhow!(format!(in rt.alloc(); "cannot read {file}: {e}")?)),
-    }
+fn certify_file(rt: &HostRuntime, question: &Question) -> anyhow::Result<Verdict> {
+    let image = read_image(rt, question.file.as_str())?;
+    let prices = read_prices(rt, question.prices.as_deref())?;
+    let by = Certifier {
+        model: &prices,
+        budget: question.budget,
+    };
+    Ok(certify_round(rt, image.as_slice(), &by)?)
 }
 
-fn certify_file(
-    rt: &HostRuntime,
-    image: &[u8],
-    budget: u64,
-    prices: Option<String>,
-) -> anyhow::Result<Verdict> {
-    match prices {
-        None => Ok(certify_round(rt, image, &OperandModel, budget)?),
-        Some(file) => {
-            let text = read_text(rt, file.as_str())?;
-            let model = read_prices(rt, file.as_str(), text.as_str())?;
-            Ok(certify_round(rt, image, &model, budget)?)
-        }
-    }
-}
-
-// Writes a file whole or not at all: under another name first.
-fn write_whole(rt: &HostRuntime, file: &str, bytes: &[u8]) -> anyhow::Result<()> {
-    let part = format!(in rt.alloc(); "{file}.part")?;
-    fs::write(rt, part.as_str(), bytes)?;
-    fs::rename(rt, part.as_str(), file)?;
-    Ok(())
-}
-
-fn place_priced(
-    rt: &HostRuntime,
-    before: &[u8],
-    image: &mut [u8],
-    budget: u64,
-    prices: Option<String>,
-) -> anyhow::Result<Verdict> {
-    match prices {
-        None => Ok(place_saves(rt, before, image, &OperandModel, budget)?),
-        Some(file) => {
-            let text = read_text(rt, file.as_str())?;
-            let model = read_prices(rt, file.as_str(), text.as_str())?;
-            Ok(place_saves(rt, before, image, &model, budget)?)
-        }
-    }
-}
-
-fn place_file(
-    rt: &HostRuntime,
-    before: &[u8],
-    budget: u64,
-    out: &str,
-    prices: Option<String>,
-) -> anyhow::Result<Verdict> {
-    let mut image = before.to_vec(rt.alloc())?;
-    let verdict = place_priced(rt, before, image.as_mut_slice(), budget, prices)?;
-    if let Verdict::Passed = verdict {
+fn place_file(rt: &HostRuntime, question: &Question, out: &str) -> anyhow::Result<Verdict> {
+    let before = read_image(rt, question.file.as_str())?;
+    let mut image = before.as_slice().to_vec(rt.alloc())?;
+    let prices = read_prices(rt, question.prices.as_deref())?;
+    let by = Certifier {
+        model: &prices,
+        budget: question.budget,
+    };
+    let verdict = place_saves(rt, before.as_slice(), image.as_mut_slice(), &by)?;
+    if verdict.is_ok() {
         write_whole(rt, out, image.as_slice())?;
     }
     Ok(verdict)
 }
 
-fn run_file(
-    rt: &HostRuntime,
-    image: &[u8],
-    tape: &[u32],
-    source: Source,
-    options: Options,
-) -> anyhow::Result<Verdict> {
-    let Options {
-        prices,
-        cuts,
-        steps,
-    } = options;
-    let calls = script(rt.alloc(), steps, cuts.as_slice())?;
-    match prices {
-        None => run_round(rt, image, &OperandModel, tape, source, calls.as_slice()),
-        Some(file) => {
-            let text = read_text(rt, file.as_str())?;
-            let model = read_prices(rt, file.as_str(), text.as_str())?;
-            run_round(rt, image, &model, tape, source, calls.as_slice())
-        }
-    }
+fn run_file(rt: &HostRuntime, rehearsal: &Rehearsal) -> anyhow::Result<()> {
+    let image = read_image(rt, rehearsal.file.as_str())?;
+    let tape = read_tape(rt, rehearsal.tape.as_str())?;
+    let options = &rehearsal.options;
+    let calls = script(rt.alloc(), options.steps, options.cuts.as_slice())?;
+    let prices = read_prices(rt, options.prices.as_deref())?;
+    let round = Round {
+        model: &prices,
+        image: image.as_slice(),
+        tape: tape.as_slice(),
+    };
+    run_round(rt, rehearsal.source, &round, calls.as_slice())
 }
 
 fn obey(rt: &HostRuntime) -> anyhow::Result<Verdict> {
-    match read_command(rt)? {
-        Command::Guide => guide(rt),
-        Command::List { file } => {
-            let image = read_image(rt, file.as_str())?;
-            Ok(list(rt, image.as_slice())?)
-        }
-        Command::Certify {
-            file,
-            budget,
-            prices,
-        } => {
-            let image = read_image(rt, file.as_str())?;
-            certify_file(rt, image.as_slice(), budget, prices)
-        }
-        Command::Place {
-            file,
-            budget,
-            out,
-            prices,
-        } => {
-            let image = read_image(rt, file.as_str())?;
-            place_file(rt, image.as_slice(), budget, out.as_str(), prices)
-        }
-        Command::Run {
-            file,
-            tape,
-            source,
-            options,
-        } => {
-            let image = read_image(rt, file.as_str())?;
-            let text = read_text(rt, tape.as_str())?;
-            let tape = read_tape(rt, tape.as_str(), text.as_str())?;
-            run_file(rt, image.as_slice(), tape.as_slice(), source, options)
-        }
-        Command::Help => Ok(print_help(rt)?),
-    }
+    let verdict = match read_command(rt)? {
+        Command::Guide => Ok(guide(rt)?),
+        Command::List { file } => list_file(rt, file.as_str())?,
+        Command::Certify(question) => certify_file(rt, &question)?,
+        Command::Place { question, out } => place_file(rt, &question, out.as_str())?,
+        Command::Run(rehearsal) => Ok(run_file(rt, &rehearsal)?),
+        Command::Help => Ok(println!(rt; "{HELP}")?),
+    };
+    Ok(verdict)
 }
 
 fn main(rt: HostRuntime) -> ExitCode {
     match obey(&rt) {
-        Ok(Verdict::Passed) => ExitCode::SUCCESS,
-        Ok(Verdict::Refused) => ExitCode::FAILURE,
+        Ok(Ok(())) => ExitCode::SUCCESS,
+        Ok(Err(_)) => ExitCode::FAILURE,
         Err(wrong) => {
             let _ = eprintln!(rt; "yatesorrel: {wrong}");
             ExitCode::FAILURE

@@ -1,51 +1,57 @@
 // A price file: a price for each opcode, and one for a saving.
+use crate::files::read_text;
+use crate::lines::said_lines;
 use anyhow::anyhow;
 use pricing::flat::FlatModel;
-use std::fmt;
+use pricing::prices::Prices;
+use std::{fmt, iter};
 
-// What one line says: the place of a price among the 257, and the price.
+// What a price is for.
+// Stays: a None would not say `save`.
+#[derive(Clone, Copy)]
+enum Name {
+    Opcode(u8),
+    Save,
+}
+
+impl fmt::Display for Name {
+    fn fmt<W: fmt::Write>(&self, f: &mut fmt::Formatter<W>) -> fmt::Result {
+        match *self {
+            Name::Opcode(opcode) => write!(f, "{opcode:#04x}"),
+            Name::Save => write!(f, "save"),
+        }
+    }
+}
+
+// A name as a line has it: `save`, or an opcode byte as 0x00 to 0xff.
+fn name_of(word: &str) -> Option<Name> {
+    if word == "save" {
+        return Some(Name::Save);
+    }
+    u8::from_str_radix(word.strip_prefix("0x")?, 16)
+        .ok()
+        .map(Name::Opcode)
+}
+
+// What one line says.
 #[derive(Clone, Copy)]
 struct Entry {
-    place: usize,
+    name: Name,
     price: u16,
-}
-
-const SAVING: usize = 256;
-
-// The place that a name says: `save`, or an opcode byte as 0x00 to 0xff.
-fn place_of(name: &str) -> Option<usize> {
-    if name == "save" {
-        return Some(SAVING);
-    }
-    match u8::from_str_radix(name.strip_prefix("0x")?, 16) {
-        Ok(opcode) => Some(opcode as usize),
-        Err(_) => None,
-    }
-}
-
-fn price_of(word: &str) -> Option<u16> {
-    match word.parse::<u16>() {
-        Ok(price) => Some(price),
-        Err(_) => None,
-    }
 }
 
 fn entry_of(line: &str) -> Option<Entry> {
     let mut words = line.split_whitespace();
-    let place = place_of(words.next()?)?;
-    let price = price_of(words.next()?)?;
-    match words.next() {
-        Some(_) => None,
-        None => Some(Entry { place, price }),
-    }
+    let name = name_of(words.next()?)?;
+    let price = words.next()?.parse::<u16>().ok()?;
+    words.next().is_none().then_some(Entry { name, price })
 }
 
 // Why a text is no price file.
 #[derive(Clone, Copy)]
 enum Wrong {
     Line(u64),
-    NoSaving,
-    NoOpcode(usize),
+    Missing(Name),
 }
 
 impl fmt::Display for Wrong {
@@ -55,8 +61,7 @@ impl fmt::Display for Wrong {
                 f,
                 "line {number}: wanted an opcode or save, each once, and a price: 0x85 12"
             ),
-            Wrong::NoSaving => write!(f, "there is no price for save"),
-            Wrong::NoOpcode(opcode) => write!(f, "there is no price for {opcode:#04x}"),
+            Wrong::Missing(name) => write!(f, "there is no price for {name}"),
         }
     }
 }
@@ -64,71 +69,53 @@ impl fmt::Display for Wrong {
 // The prices read so far.
 #[derive(Drop)]
 struct Sheet {
-    prices: [Option<u16>; 257],
+    opcodes: [Option<u16>; 256],
+    saving: Option<u16>,
 }
 
 impl Sheet {
-    // False where the line is no price, or the place has one.
-    fn take(&mut self, line: &str) -> bool {
-        let Some(entry) = entry_of(line) else {
-            return false;
-        };
-        if entry.place >= 257 || self.prices[entry.place].is_some() {
-            return false;
+    // Takes a price; the one that stood under its name before.
+    fn insert(&mut self, entry: Entry) -> Option<u16> {
+        match entry.name {
+            Name::Opcode(opcode) => self.opcodes[opcode as usize].replace(entry.price),
+            Name::Save => self.saving.replace(entry.price),
         }
-        self.prices[entry.place] = Some(entry.price);
-        true
     }
 
     // All prices, or the first that is missing.
     fn whole(&self) -> Result<[u16; 257], Wrong> {
-        let mut prices = [0u16; 257];
-        for place in 0..257 {
-            match self.prices[place] {
-                Some(price) => prices[place] = price,
-                None => return Err(missing(place)),
-            }
+        let mut prices = [0; 257];
+        let names = (0..=255u8).map(Name::Opcode).chain(iter::once(Name::Save));
+        let known = self.opcodes.iter().chain(iter::once(&self.saving));
+        for ((price, known), name) in prices.iter_mut().zip(known).zip(names) {
+            *price = known.ok_or(Wrong::Missing(name))?;
         }
         Ok(prices)
     }
 }
 
-fn missing(place: usize) -> Wrong {
-    if place == SAVING {
-        Wrong::NoSaving
-    } else {
-        Wrong::NoOpcode(place)
-    }
-}
-
-// Takes the prices of a text; the number of the line that is wrong. Blank lines
-// and lines that begin with # are passed over.
-fn take_all(sheet: &mut Sheet, text: &str) -> Result<(), u64> {
-    let mut number = 0u64;
-    for line in text.lines() {
-        number = number.saturating_add(1);
-        let line = line.trim();
-        if !line.is_empty() && !line.starts_with('#') && !sheet.take(line) {
-            return Err(number);
+// The prices that numbered lines say.
+fn prices_of(lines: &[(&str, u64)]) -> Result<[u16; 257], Wrong> {
+    let mut sheet = Sheet {
+        opcodes: [None; 256],
+        saving: None,
+    };
+    for (line, number) in lines {
+        let entry = entry_of(line).ok_or(Wrong::Line(*number))?;
+        if sheet.insert(entry).is_some() {
+            return Err(Wrong::Line(*number));
         }
     }
-    Ok(())
+    sheet.whole()
 }
 
-// The prices that a price file's text says.
-fn prices_of(text: &str) -> Result<[u16; 257], Wrong> {
-    let mut sheet = Sheet {
-        prices: [None; 257],
+// The prices of a file, or of the operand model where no file is named.
+pub fn read_prices(rt: &HostRuntime, file: Option<&str>) -> anyhow::Result<Prices> {
+    let Some(file) = file else {
+        return Ok(Prices::Operand);
     };
-    match take_all(&mut sheet, text) {
-        Ok(()) => sheet.whole(),
-        Err(number) => Err(Wrong::Line(number)),
-    }
-}
-
-pub fn read_prices(rt: &HostRuntime, name: &str, text: &str) -> anyhow::Result<FlatModel> {
-    match prices_of(text) {
-        Ok(prices) => Ok(FlatModel::new(prices)),
-        Err(wrong) => Err(anyhow!(format!(in rt.alloc(); "{name}: {wrong}")?)),
-    }
+    let text = read_text(rt, file)?;
+    let lines = said_lines(rt.alloc(), text.as_str())?;
+    let prices = prices_of(lines.as_slice()).map_err(|wrong| anyhow!("{file}: {wrong}"))?;
+    Ok(Prices::Flat(FlatModel::new(prices)))
 }

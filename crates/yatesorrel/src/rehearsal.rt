@@ -1,36 +1,57 @@
 // A round rehearsed over a supply: the script, and what came of it.
-use crate::run::{print_ending, print_log};
-use certifier::certify::verdict;
+use certifier::certify::Certifier;
 use claims::call::Call;
 use claims::reply::Reply;
-use pricing::model::PriceModel;
+use claims::round::Round;
+use machine::ending::Ending;
+use machine::state::State;
+use pricing::prices::Prices;
 use rig::rehearse::rehearse;
 use rig::rig::Rig;
 use std::alloc::{AllocError, Global};
-use std::io;
+use std::{fmt, io};
 use supply::supply::Supply;
 
 // The largest budget that the certifier takes.
 const MOST_BUDGET: u64 = 100_000_000;
-
-fn push_cuts(calls: &mut Vec<Call>, cuts: &[u64], asked: u64) -> Result<(), AllocError> {
-    for cut in cuts {
-        if *cut == asked {
-            calls.push(Call::Cut)?;
-        }
-    }
-    Ok(())
-}
 
 // So many steps, with a cut before the next step once as many were asked as a
 // cut says.
 pub fn script(heap: Global, steps: u64, cuts: &[u64]) -> Result<Vec<Call>, AllocError> {
     let mut calls = Vec::new(heap);
     for asked in 0..steps {
-        push_cuts(&mut calls, cuts, asked)?;
+        for _ in cuts.iter().filter(|cut| **cut == asked) {
+            calls.push(Call::Cut)?;
+        }
         calls.push(Call::Step)?;
     }
     Ok(calls)
+}
+
+// How a run ended, if it did.
+#[derive(Clone, Copy)]
+struct Ended(Option<Ending>);
+
+impl fmt::Display for Ended {
+    fn fmt<W: fmt::Write>(&self, f: &mut fmt::Formatter<W>) -> fmt::Result {
+        match self.0 {
+            Some(Ending::Exit) => write!(f, "exit"),
+            Some(Ending::Trap(trap)) => write!(f, "trap {}", trap.number()),
+            None => write!(f, "none"),
+        }
+    }
+}
+
+fn print_log(rt: &HostRuntime, state: &State) -> io::Result<()> {
+    for index in 0..state.logged() {
+        if let Some(record) = state.record(index) {
+            println!(rt;
+                "record {index} sensor {} value {}",
+                record.sensor, record.value
+            )?;
+        }
+    }
+    Ok(())
 }
 
 fn print_rig<S: Supply>(rt: &HostRuntime, rig: &Rig<S>) -> io::Result<()> {
@@ -39,30 +60,32 @@ fn print_rig<S: Supply>(rt: &HostRuntime, rig: &Rig<S>) -> io::Result<()> {
     println!(rt; "cuts {}", rig.cuts())?;
     println!(rt; "attempts {}", rig.attempts())?;
     let kept = rig.kept();
-    print_ending(rt, kept.ending())?;
+    println!(rt; "ending {}", Ended(kept.ending()))?;
     print_log(rt, &kept)
 }
 
 // A word where the image is not accepted at the supply's budget: the rig runs
 // it all the same.
-fn warn<M: PriceModel>(rt: &HostRuntime, image: &[u8], model: &M, budget: u64) -> io::Result<()> {
-    if let Err(refusal) = verdict(image, model, budget.min(MOST_BUDGET)) {
+fn warn(rt: &HostRuntime, round: &Round<Prices>, budget: u64) -> io::Result<()> {
+    let certifier = Certifier {
+        model: round.model,
+        budget: budget.min(MOST_BUDGET),
+    };
+    if let Err(refusal) = certifier.verdict(round.image) {
         eprintln!(rt; "yatesorrel: not accepted at this supply's budget, {budget}: {refusal}")?;
     }
     Ok(())
 }
 
-pub fn rehearse_round<S: Supply + Drop, M: PriceModel>(
+pub fn rehearse_round<S: Supply + Drop>(
     rt: &HostRuntime,
     supply: S,
-    model: &M,
-    image: &[u8],
-    tape: &[u32],
+    round: &Round<Prices>,
     calls: &[Call],
 ) -> anyhow::Result<()> {
-    warn(rt, image, model, supply.budget())?;
+    warn(rt, round, supply.budget())?;
     let mut replies = vec![in rt.alloc(); Reply::Count(0); calls.len()]?;
-    let rig = rehearse(supply, model, image, tape, calls, replies.as_mut_slice());
+    let rig = rehearse(supply, round, calls, replies.as_mut_slice());
     print_rig(rt, &rig)?;
     Ok(())
 }

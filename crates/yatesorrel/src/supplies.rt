@@ -1,6 +1,8 @@
 // A supply as the command line names it.
-use anyhow::anyhow;
+use anyhow::Context;
+use std::str::FromStr;
 
+// Stays: a None would not say that the mains are meant.
 #[derive(Clone, Copy)]
 pub enum Source {
     Mains,
@@ -14,39 +16,29 @@ pub enum Source {
 
 const USE: &str = "a supply is mains, or capacitor:C,TOP,BOTTOM,UNIT";
 
-fn number(word: Option<&str>) -> anyhow::Result<u32> {
-    match word {
-        Some(word) => match word.parse::<u32>() {
-            Ok(number) => Ok(number),
-            Err(_) => Err(anyhow!(USE)),
-        },
-        None => Err(anyhow!(USE)),
-    }
+fn capacitor_of(text: &str) -> Option<Source> {
+    let mut numbers = text.split(',').map(|word| word.parse::<u32>().ok());
+    let microfarads = numbers.next()??;
+    let top = numbers.next()??;
+    let bottom = numbers.next()??;
+    let unit = numbers.next()??;
+    numbers.next().is_none().then_some(Source::Capacitor {
+        microfarads,
+        top,
+        bottom,
+        unit,
+    })
 }
 
-fn read_capacitor(text: &str) -> anyhow::Result<Source> {
-    let mut words = text.split(',');
-    let microfarads = number(words.next())?;
-    let top = number(words.next())?;
-    let bottom = number(words.next())?;
-    let unit = number(words.next())?;
-    match words.next() {
-        Some(_) => Err(anyhow!(USE)),
-        None => Ok(Source::Capacitor {
-            microfarads,
-            top,
-            bottom,
-            unit,
-        }),
-    }
-}
+impl FromStr for Source {
+    type Err = anyhow::Error;
 
-pub fn read_source(word: &str) -> anyhow::Result<Source> {
-    if word == "mains" {
-        return Ok(Source::Mains);
-    }
-    match word.strip_prefix("capacitor:") {
-        Some(text) => read_capacitor(text),
-        None => Err(anyhow!(USE)),
+    fn from_str(word: &str) -> anyhow::Result<Source> {
+        if word == "mains" {
+            return Ok(Source::Mains);
+        }
+        word.strip_prefix("capacitor:")
+            .and_then(capacitor_of)
+            .context(USE)
     }
 }

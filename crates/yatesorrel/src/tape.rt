@@ -1,23 +1,16 @@
 // A tape file: a reading a line.
+use crate::files::read_text;
+use crate::lines::said_lines;
 use anyhow::anyhow;
 
-// The readings of a tape's text; blank lines and lines that begin with # are
-// passed over.
-pub fn read_tape(rt: &HostRuntime, name: &str, text: &str) -> anyhow::Result<Vec<u32>> {
+pub fn read_tape(rt: &HostRuntime, file: &str) -> anyhow::Result<Vec<u32>> {
+    let text = read_text(rt, file)?;
     let mut tape = Vec::new(rt.alloc());
-    let mut number = 0u64;
-    for line in text.lines() {
-        number = number.saturating_add(1);
-        let line = line.trim();
-        if line.is_empty() || line.starts_with('#') {
-            continue;
-        }
-        match line.parse::<u32>() {
-            Ok(reading) => tape.push(reading)?,
-            Err(e) => return Err(anyhow!(format!(in rt.alloc();
-                "{name}, line {number}: {e}: a reading is 0 to 4294967295"
-            )?)),
-        }
+    for (line, number) in said_lines(rt.alloc(), text.as_str())? {
+        let reading = line.parse::<u32>().map_err(|e| {
+            anyhow!("{file}, line {number}: {e}: a reading is 0 to 4294967295")
+        })?;
+        tape.push(reading)?;
     }
     Ok(tape)
 }

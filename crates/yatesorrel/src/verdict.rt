@@ -1,6 +1,4 @@
-// How a command ended: the program's status is 1 where it refused something.
-#[derive(Clone, Copy)]
-pub enum Verdict {
-    Passed,
-    Refused,
-}
+// What came of a round: the program's status is 1 where it is refused.
+use isa::refusal::Refusal;
+
+pub type Verdict = Result<(), Refusal>;

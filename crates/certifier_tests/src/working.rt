@@ -24,7 +24,7 @@ fn left(image: &[u8], budget: u64) -> [Worth; 1024] {
 }
 
 fn is(worth: Worth, price: u64, slot: u16) -> bool {
-    worth.price == price && worth.slot == slot
+    worth == Worth { price, slot }
 }
 
 // The worths of the slots, none for the one that cannot be reached, and past

@@ -8,7 +8,7 @@ use std::cmp::{self, Reverse};
 
 // Callers in C lend lists of these, so its layout is C's.
 #[repr(C)]
-#[derive(Clone, Copy, Default)]
+#[derive(Clone, Copy, Default, PartialEq, Eq)]
 pub struct Worth {
     pub price: u64,
     pub slot: u16,

@@ -29,7 +29,7 @@ fn apply_at_width(width: Width, operation: Operation, dst: u64, source: u64) -> 
 }
 
 // What an operation leaves in dst. At 32 bits the high half is cleared.
-// Stays: the two operands are the arguments of an operation, and the width says how it takes them.
+// Stays: a struct of width and operands would be made for one call and taken apart there.
 pub fn apply(width: Width, operation: Operation, dst: u64, source: u64) -> u64
     ensures { result ≡ applied width operation dst source }
 {

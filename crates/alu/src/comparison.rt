@@ -27,7 +27,8 @@ fn holds_at_width(width: Width, test: Test, dst: u64, source: u64) -> bool
 }
 
 // Whether a test holds of dst and the source value.
-// Stays: the two operands are the arguments of a test, and the width says how it takes them.
+// Stays: a struct of width and operands would be made for one call and taken apart there; the match of
+// `apply` alike, as one function of a closure for both is no shorter.
 pub fn holds(width: Width, test: Test, dst: u64, source: u64) -> bool
     ensures { result ≡ compared width test dst source }
 {

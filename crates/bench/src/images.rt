@@ -40,7 +40,7 @@ pub fn straight(heap: Global, slots: usize) -> Result<Vec<u8>, AllocError> {
     ruled(heap, 1..slots, |_| ADD)
 }
 
-// A reading in every 42 slots, and idle slots between them: 1,000 of 1,024.
+// A reading in every 44 slots, and idle slots between them: 999 of 1,024.
 pub fn idling(heap: Global, slots: usize) -> Result<Vec<u8>, AllocError> {
     ruled(heap, 1..slots, |slot| {
         if slot % 44 == 1 { READING } else { IDLE }

@@ -32,7 +32,7 @@ fn certify_often(image: &[u8], working: &mut [Worth]) -> usize {
         .count()
 }
 
-// Stays: the name is only printed.
+// Stays: a struct of name and image is longer at each call than the two.
 fn time_one(rt: &HostRuntime, name: &str, image: &[u8]) -> anyhow::Result<()> {
     let mut working = [Worth::default(); 1024];
     let (accepted, took) = timed(rt, || certify_often(image, &mut working))?;

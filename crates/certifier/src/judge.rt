@@ -41,7 +41,7 @@ fn charge<V: Priced>(worths: &[V], starts: &[bool; 1024], budget: u64) -> Result
     requires { 1024 ≤ length worths.now }
     ensures { result ≡ ok_unless (first_below (over_at V.Priced.price V.PathValue.kind.empty worths.now starts.now budget) 1024) tt }
 {
-    // Stays: enumerate counts in usize, and a slot is a u16.
+    // Stays: the slot's number reads both lists and stands in the refusal; a zip of three is no plainer.
     for at in 0..1024u16 {
         check_start(starts[at as usize], price_at(worths, at), budget, at)?;
     }

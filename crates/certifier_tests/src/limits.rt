@@ -9,7 +9,7 @@ const EXIT: &[u8; 8] = b"\x95\0\0\0\0\0\0\0";
 
 // The refusal of an image at a budget, with a working list of so many
 // entries; 0 where it is accepted.
-// Stays: the cases are a table of numbers.
+// Stays: an option would make each case longer.
 fn answer(rt: &HostRuntime, image: &[u8], budget: u64, entries: usize) -> Result<u8, Fail> {
     let mut working = vec![in rt.alloc(); Worth::default(); entries]?;
     let model = &OperandModel;

@@ -9,7 +9,7 @@ struct Case {
     image: &'static [u8],
     budget: u64,
     // all 0 where the image is accepted
-    // Stays: the cases are a table of numbers.
+    // Stays: an option would make each case longer.
     number: u8,
     slot: u16,
     price: u64,

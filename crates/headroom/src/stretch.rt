@@ -7,7 +7,7 @@ use paths::kind::PathValue;
 use paths::node::{Node, Successors};
 use paths::worth::Worth;
 
-// Stays: one line, which `paths` keeps to itself for any kind.
+// Stays: one line; public in `paths` it would cost a contract and an import, and save none.
 fn worth_at(worths: &[Worth], at: u16) -> Worth
     ensures { result ≡ worth_at worths.now at }
 {

@@ -2,11 +2,9 @@
 use crate::budget::least_budget;
 use crate::capacity::{Voltages, least_capacity};
 use crate::stretch::{dearest_start, onward};
-use isa::refusal::Refusal;
 use paths::node::{Node, Successors};
 use paths::worth::Worth;
 use pricing::operand::OperandModel;
-use std::test::Fail;
 
 const SIX: &[u8; 48] = b"\
     \xb7\x01\x00\x00\x07\x00\x00\x00\
@@ -24,19 +22,19 @@ const fn voltages(top: u32, bottom: u32) -> Voltages {
     }
 }
 
-const NONE: Worth = Worth { price: 0, slot: 0 };
-
-fn number(refusal: Refusal) -> u32 {
-    refusal.number() as u32
+// The least capacity that the six slots fit, or the number of the refusal.
+fn capacity(top: u32, bottom: u32) -> Result<Option<u32>, u8> {
+    let mut working = [Worth::default(); 1024];
+    least_capacity(SIX, &OperandModel, voltages(top, bottom), &mut working).map_err(
+        |refusal| refusal.number(),
+    )
 }
 
 #[test]
 fn the_six_slots_need_258(rt: HostRuntime) {
-    let mut working = [NONE; 1024];
-    match least_budget(SIX, &OperandModel, &mut working) {
-        Ok(budget) => assert_eq!(rt; budget, 258),
-        Err(refusal) => assert_eq!(rt; number(refusal), 0),
-    }
+    let mut working = [Worth::default(); 1024];
+    let budget = least_budget(SIX, &OperandModel, &mut working);
+    assert_eq!(rt; budget.map_err(|refusal| refusal.number()), Ok(258));
     assert_eq!(rt; working[0].price, 258);
     assert_eq!(rt; working[5].price, 149);
 }
@@ -44,26 +42,10 @@ fn the_six_slots_need_258(rt: HostRuntime) {
 // A microfarad holds 2.5 units between 3,000 and 2,000 millivolts: 103 of them
 // hold 257.
 #[test]
-fn they_fit_104_microfarads(rt: HostRuntime) -> Result<(), Fail> {
-    let mut working = [NONE; 1024];
-    match least_capacity(SIX, &OperandModel, voltages(3000, 2000), &mut working) {
-        Ok(capacity) => assert_eq!(rt; capacity, Some(104)),
-        Err(refusal) => assert_eq!(rt; number(refusal), 0),
-    }
-    match least_capacity(SIX, &OperandModel, voltages(11, 10), &mut working) {
-        Ok(capacity) => assert_eq!(rt; capacity, None),
-        Err(refusal) => assert_eq!(rt; number(refusal), 0),
-    }
-    match least_capacity(SIX, &OperandModel, voltages(2000, 3000), &mut working) {
-        Ok(_) => {
-            assert!(rt; false);
-            Ok(())
-        },
-        Err(refusal) => {
-            assert_eq!(rt; number(refusal), 13);
-            Ok(())
-        },
-    }
+fn they_fit_104_microfarads(rt: HostRuntime) {
+    assert_eq!(rt; capacity(3000, 2000), Ok(Some(104)));
+    assert_eq!(rt; capacity(11, 10), Ok(None));
+    assert_eq!(rt; capacity(2000, 3000), Err(13));
 }
 
 #[test]

@@ -1,5 +1,5 @@
 // The symbols of operations, tests and sizes.
-// Stays: a Display of each enum would stand in `isa`, which leaves the text of an instruction to this crate.
+// Stays: a Display of each takes a struct and an impl here, and each text is used once.
 ghost use Rattle.std.specs.Prelude.{◌≡◌};
 ghost use Rattle.listing.specs.Symbol.{assignment_of, comparison_of, size_name};
 

@@ -14,7 +14,7 @@ use isa::instruction::Instruction;
 use isa::kind::{Kind, Operation, Size, Source, Test, Width};
 
 impl State {
-    // Stays: width, operation and source are what the match on the kind found, and go no further.
+    // Stays: a struct of width, operation and source would be made by the match on the kind and taken apart here.
     fn compute(
         &mut self,
         executable: &Executable,

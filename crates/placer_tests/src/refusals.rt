@@ -8,6 +8,7 @@ use pricing::operand::OperandModel;
 
 const NONE: Worth = Worth { price: 0, slot: 0 };
 
+// Stays: the answers are compared with what a refusal tells, which has no none.
 const ACCEPTED: Told = Told {
     number: 0,
     slot: 0,

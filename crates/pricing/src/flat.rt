@@ -6,7 +6,7 @@ ghost use Rattle.std.proofs.Common.{rules};
 use crate::model::PriceModel;
 
 // Prices by opcode, and the last for a saving.
-// Stays: there are 256 opcodes and one saving, and a library has no heap.
+// Stays: callers give the 257 prices as one array, and a library has no heap.
 #[derive(Clone, Copy)]
 pub struct FlatModel {
     prices: [u16; 257],

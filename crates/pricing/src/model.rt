@@ -3,7 +3,7 @@ ghost use Rattle.std.specs.Prelude.{◌≡◌};
 ghost use Rattle.pricing.specs.Model.{Model, Bounded};
 
 // Its calls answer the four functions that it means, and change nothing.
-// Stays: a struct of opcode, imm and operands would be made where a model is asked and taken apart in each model.
+// Stays: `most` has no operands and `saving` none of these, so a struct of them would fit `spending` alone.
 pub trait PriceModel {
     ghost means: { Self → Model };
 

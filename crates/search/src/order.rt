@@ -77,7 +77,7 @@ impl Table<'_> {
             marks: [Mark::New; 1024],
             order: ArrayVec::new(),
         };
-        // Stays: enumerate counts in usize, and a node is a u16.
+        // Stays: tried `(0..NODES).zip(self.starts)`: four goals on what the zip yields stay open.
         for start in 0..NODES {
             if self.starts[start as usize] {
                 self.visit_way(&mut visits, Some(start), NODES)?;

@@ -79,7 +79,7 @@ impl Table<'_> {
         ensures { Tells result (Reached (tabled self.now.nodes.now) self.now.starts.now) }
     {
         let mut flood = Flood::new();
-        // Stays: enumerate counts in usize, and a node is a u16.
+        // Stays: tried `(0..NODES).zip(self.starts)`: five goals on what the zip yields stay open.
         for start in 0..NODES {
             if self.starts[start as usize] {
                 flood.add(Some(start));

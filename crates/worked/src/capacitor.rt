@@ -13,7 +13,7 @@ use rig::rig::Rig;
 use supply::capacitor::Capacitor;
 
 // Its histories are those of which the counts are known.
-// Stays: only a contract at the type ties what is known to what a capacitor of the code means.
+// Stays: without it what is known of the counts would stand on no call of the code.
 pub fn rehearse_on_capacitor(
     capacitor: Capacitor,
     round: &Round<FlatModel>,

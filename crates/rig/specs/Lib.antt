@@ -1,4 +1,5 @@
 pub mod Limit
+pub mod Parts
 pub mod Plan
 pub mod Rehearsal
 pub mod Seen

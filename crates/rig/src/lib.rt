@@ -5,6 +5,7 @@ pub mod begin;
 mod charge;
 pub mod cut;
 mod limit;
+pub mod parts;
 mod plan;
 pub mod question;
 pub mod rehearse;

@@ -28,15 +28,16 @@ impl<S: Supply> Rig<S> {
     }
 }
 
-// Whoever watches a rehearsal: told after each call how many were made.
+// Whoever watches a rehearsal: told after each call how many were made, and what
+// the last one answered.
 // Stays: a closure is called under a `requires`, and no public call here has one.
 pub trait Watch {
-    fn made(&mut self, calls: usize);
+    fn made(&mut self, calls: usize, reply: Reply);
 }
 
 // Nobody watches.
 impl Watch for () {
-    fn made(&mut self, _calls: usize) {}
+    fn made(&mut self, _calls: usize, _reply: Reply) {}
 }
 
 // Begins a rig on a supply and makes the calls of a script, as many as there is
@@ -67,7 +68,7 @@ pub fn rehearse_watched<S: Supply, M: PriceModel, W: Watch>(
     // Stays: a proof knows nothing of the replies after iter_mut().zip(calls).
     for made in 0..calls.len().min(replies.len()) {
         replies[made] = rig.call(calls[made], round);
-        watch.made(made + 1);
+        watch.made(made + 1, replies[made]);
     }
     rig
 }

@@ -20,18 +20,19 @@ pub struct Record {
     pub value: u64,
 }
 
+// Any numbers are a state, so whoever stores one may make it again of its parts.
 #[derive(Clone, Copy, PartialEq, Eq)]
 pub struct State {
     // a jump can lead below 0 or past the image
-    pub(crate) slot: i32,
-    pub(crate) regs: [u64; REGISTERS],
-    pub(crate) memory: [u8; MEMORY],
+    pub slot: i32,
+    pub regs: [u64; REGISTERS],
+    pub memory: [u8; MEMORY],
     // how many readings of the tape were taken
-    pub(crate) place: usize,
+    pub place: usize,
     // Stays: the device has room for so many, and a state is copied, which an `ArrayVec` is not.
-    pub(crate) log: [Record; LOG],
-    pub(crate) logged: usize,
-    pub(crate) ending: Option<Ending>,
+    pub log: [Record; LOG],
+    pub logged: usize,
+    pub ending: Option<Ending>,
 }
 
 impl State {

@@ -9,13 +9,14 @@ use crate::ratings::Ratings;
 // their own.
 pub mod supply;
 
+// Whoever stores one may make it again of its parts.
 #[derive(Drop)]
 pub struct Capacitor {
-    ratings: Ratings,
+    pub ratings: Ratings,
     // twice the energy that it holds, in picojoules
-    energy: u64,
-    asked: u64,
-    charges: u64,
+    pub energy: u64,
+    pub asked: u64,
+    pub charges: u64,
     ghost above: { floor_of (rated ratings) ≤ energy },
     ghost below: { energy ≤ full_of (rated ratings) },
 }

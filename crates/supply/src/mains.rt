@@ -10,8 +10,8 @@ use crate::supply::Supply;
 // Stays: a struct of the two counts, for a capacitor too, would be longer than the two lines that it saves.
 #[derive(Drop)]
 pub struct Mains {
-    asked: u64,
-    charges: u64,
+    pub asked: u64,
+    pub charges: u64,
 }
 
 impl Mains {

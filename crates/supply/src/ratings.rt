@@ -6,12 +6,12 @@ use isa::refusal::Refusal;
 
 #[derive(Clone, Copy)]
 pub struct Ratings {
-    microfarads: u32,
+    pub microfarads: u32,
     // the voltages between which it works, in millivolts
-    top: u32,
-    bottom: u32,
+    pub top: u32,
+    pub bottom: u32,
     // the energy of a unit of charge, in picojoules
-    unit: u32,
+    pub unit: u32,
     ghost within: { Within (ratings_of microfarads top bottom unit) },
 }
 
@@ -47,13 +47,15 @@ impl Ratings {
         self.microfarads as u64 * (volts * volts)
     }
 
-    pub(crate) fn floor(self) -> u64
+    // Its energy at the bottom.
+    pub fn floor(self) -> u64
         ensures { result ≡ floor_of (rated self) }
     {
         self.energy_at(self.bottom)
     }
 
-    pub(crate) fn full(self) -> u64
+    // Its energy at the top.
+    pub fn full(self) -> u64
         ensures { result ≡ full_of (rated self) }
     {
         self.energy_at(self.top)

@@ -1,7 +1,9 @@
 pub mod Capacitor
 pub mod Drawing
+pub mod Either
 pub mod Mains
 pub mod Rated
 pub mod Ratings
+pub mod Source
 pub mod Supply
 pub mod Units

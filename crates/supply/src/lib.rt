@@ -5,4 +5,5 @@ pub mod answer;
 pub mod capacitor;
 pub mod mains;
 pub mod ratings;
+pub mod source;
 pub mod supply;

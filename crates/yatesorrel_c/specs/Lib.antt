@@ -1,0 +1,13 @@
+pub mod Attempt
+pub mod Begin
+pub mod Cut
+pub mod Held
+pub mod Least
+pub mod Prices
+pub mod Questions
+pub mod Rehearse
+pub mod Run
+pub mod Script
+pub mod State
+pub mod Supplies
+pub mod Told

@@ -1,0 +1,4 @@
+pub mod Taking
+pub mod Numbers
+pub mod Lining
+pub mod Taping

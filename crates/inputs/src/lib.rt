@@ -1,0 +1,7 @@
+// What a person types and writes, read: command lines, supply words, tapes and
+// price lists.
+#![tactic(auto)]
+
+mod number;
+mod said;
+pub mod tape;

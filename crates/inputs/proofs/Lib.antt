@@ -1,4 +1,6 @@
-pub mod Taking
-pub mod Numbers
 pub mod Lining
+pub mod Numbers
+pub mod Parting
+pub mod Stripping
+pub mod Taking
 pub mod Taping

@@ -1,3 +1,5 @@
 pub mod Number
 pub mod Said
+pub mod Supply
 pub mod Tape
+pub mod Text

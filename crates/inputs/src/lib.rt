@@ -4,4 +4,5 @@
 
 mod number;
 mod said;
+pub mod supply;
 pub mod tape;

@@ -1,6 +1,12 @@
+pub mod Elements
+pub mod Entries
 pub mod Lining
+pub mod Listing
 pub mod Numbers
 pub mod Parting
+pub mod PriceLists
 pub mod Stripping
 pub mod Taking
 pub mod Taping
+pub mod Wholes
+pub mod Wording

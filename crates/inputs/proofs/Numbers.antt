@@ -1,5 +1,5 @@
 -- A number as `parse` reads it is the number that the definition says.
-use Rattle.std.proofs.Common.{◌≡◌, ℕ, ◌<◌, ◌≤◌, ◌^◌, Bool, true, false, ◌&&◌, nat_lt, List, [], ◌∷◌, length, Option, Some, None, Result, Ok, Err, refl, sym, ap, ◌∙◌, arith, inl, inr}
+use Rattle.std.proofs.Common.{◌≡◌, ℕ, ◌<◌, ◌≤◌, ◌^◌, Bool, true, false, ◌&&◌, nat_lt, List, [], ◌∷◌, length, Option, Some, None, Result, Ok, Err, refl, sym, ap, subst, ◌∙◌, arith, if◌then◌else◌}
 use Rattle.std.proofs.lemmas.Bool.{ltb-true, ltb-false, lt-ltb, le-ltb, and_parts, and_from, cases_Bool, both_ways, cond-true, cond-false, false_from_ne_true}
 use Rattle.std.specs.Char.{digit_value}
 use Rattle.std.specs.List.{list_all}
@@ -33,3 +33,13 @@ parsed k radix word (Ok n) h =
     ap Some h.1 ∙ sym (cond-true _ _ _ (test_from_numeral radix (2 ^ k) (without_leading_plus word) h.0))
 parsed k radix word (Err e) h =
     sym (cond-false _ _ _ (false_from_ne_true _ (λ is. h (numeral_from_test radix (2 ^ k) (without_leading_plus word) is))))
+
+below_if : (b : Bool) (v n limit : ℕ) → (b ≡ true → v < limit) → (if b then Some v else None) ≡ Some n → n < limit
+below_if true v n limit below is = let same : v ≡ n = (cc) in subst (λ m. m < limit) same (below refl)
+below_if false v n limit below is = (cc)
+
+-- a number is below its limit
+pub number_below : (radix limit : ℕ) (word : List ℕ) (n : ℕ) → number radix limit word ≡ Some n → n < limit
+number_below radix limit word n is =
+    let ds : List ℕ = without_leading_plus word in
+    below_if (is_number radix limit ds) (digits_value radix ds) n limit (λ h. (numeral_from_test radix limit ds h).1) is

@@ -1,4 +1,5 @@
 pub mod Number
+pub mod Prices
 pub mod Said
 pub mod Supply
 pub mod Tape

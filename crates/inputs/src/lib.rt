@@ -3,6 +3,7 @@
 #![tactic(auto)]
 
 mod number;
+pub mod prices;
 mod said;
 pub mod supply;
 pub mod tape;

@@ -8,5 +8,6 @@ pub mod PriceLists
 pub mod Stripping
 pub mod Taking
 pub mod Taping
+pub mod Telling
 pub mod Wholes
 pub mod Wording

@@ -2,6 +2,7 @@
 // price lists.
 #![tactic(auto)]
 
+pub mod command;
 mod number;
 pub mod prices;
 mod said;

@@ -1,0 +1,22 @@
+use Rattle.std.proofs.Common.{◌≡◌, ℕ, ◌-◌, List, [], Bor, Result, Ok, Err, get_or, length, take, drop, ap, ◌∙◌}
+use Rattle.std.proofs.lemmas.Result.{err_from_is_err_and}
+use Rattle.inputs.specs.declared.command.Verb.TheVariants as verb
+use Rattle.inputs.specs.Command.{run, asked, texts, read_then, rehearsing, rehearsal_in, run_of}
+use Rattle.inputs.proofs.Telling.{texts_three, told_on}
+use Rattle.inputs.proofs.command.read_run.Goals as goal
+
+pub returns-in_err-rehearsal : goal.returns-in_err-rehearsal
+returns-in_err-rehearsal c =
+    let d : Bor (List ℕ) = record { ref_ptr = (0, 0); now = [] } in
+    let words = c.args.words.now in
+    let read = rehearsal_in verb.Run (get_or words 0 d).now (get_or words 1 d).now (get_or words 2 d).now (texts (take (length words - 3) (drop 3 words))) in
+    let e = err_from_is_err_and c.from_residual.result c.from_residual.ensures.1 in
+    rw (e.1, e.2)
+    (told_on rehearsing asked read (run_of (texts words)) c.in_err-rehearsal.field-0.0
+    (λ e is. ap run_of (texts_three words d c.in-len3-up.len_at_least) ∙ ap (λ read. read_then read (λ r. Ok (run r))) is) c.in_err-rehearsal.ensures)
+
+pub returns : goal.returns
+returns c =
+    let d : Bor (List ℕ) = record { ref_ptr = (0, 0); now = [] } in
+    let words = c.args.words.now in
+    ap run_of (texts_three words d c.in-len3-up.len_at_least) ∙ ap (λ read. read_then read (λ r. Ok (run r))) c.in_ok-rehearsal.ensures

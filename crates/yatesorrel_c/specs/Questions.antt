@@ -2,8 +2,7 @@
 --     counts_of r          what is told of the counts of the rig r
 --     kept_record_in x     what is told of a record, or of why there is none
 --     own_counts o, own_kept_record o     what is told where the call from C refuses by itself
---     NothingTold t        t tells no refusal
-use Rattle.std.specs.Prelude.{◌≡◌, Some, None, Ok, Err, Result}
+use Rattle.std.specs.Prelude.{Some, None, Ok, Err, Result}
 use Rattle.isa.specs.declared.refusal.Refusal.{Refusal}
 use Rattle.machine.specs.declared.state.Record.{Record}
 use Rattle.machine.specs.declared.state.State.{State}
@@ -11,7 +10,6 @@ use Rattle.machine.specs.State.{empty}
 use Rattle.claims.specs.Rig.{Rig, begun}
 use Rattle.supply.specs.declared.source.Source.{Source}
 use Rattle.yatesorrel_c.specs.declared.told.Own.{Own}
-use Rattle.yatesorrel_c.specs.declared.told.PlainTold.{PlainTold}
 use Rattle.yatesorrel_c.specs.declared.questions.PlainCounts.{PlainCounts}
 use Rattle.yatesorrel_c.specs.declared.questions.PlainKeptRecord.{PlainKeptRecord}
 use Rattle.yatesorrel_c.specs.Told.{told_in, own_told}
@@ -38,6 +36,3 @@ kept_record_in (Err r) = record { refusal = told_in (Some r); kept = empty }
 
 abbrev pub own_kept_record : Own → PlainKeptRecord
 own_kept_record o = record { refusal = own_told o; kept = empty }
-
-abbrev pub NothingTold : PlainTold → Type 0
-NothingTold t = t ≡ told_in None

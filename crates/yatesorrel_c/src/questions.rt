@@ -1,15 +1,15 @@
 // The questions to a rig from C, which change nothing.
-ghost use Rattle.std.specs.Prelude.{◌≡◌};
+ghost use Rattle.std.specs.Prelude.{◌≡◌, None};
 ghost use Rattle.machine.specs.Reading.{record_in};
 ghost use Rattle.claims.specs.History.{record_or};
 ghost use Rattle.rig.specs.Seen.{seen};
 ghost use Rattle.rig.specs.declared.rig.Rig.{Rig as Held};
 ghost use Rattle.supply.specs.declared.source.Source.{Source};
 ghost use Rattle.yatesorrel_c.specs.declared.told.Own.TheVariants.{NotBegun};
-ghost use Rattle.yatesorrel_c.specs.Told.{own_told};
+ghost use Rattle.yatesorrel_c.specs.Told.{told_in, own_told};
 ghost use Rattle.yatesorrel_c.specs.State.{plain_state};
 ghost use Rattle.yatesorrel_c.specs.Held.{numbers_of, Unbegun};
-ghost use Rattle.yatesorrel_c.specs.Questions.{counts_of, own_counts, kept_record_in, own_kept_record, NothingTold};
+ghost use Rattle.yatesorrel_c.specs.Questions.{counts_of, own_counts, kept_record_in, own_kept_record};
 
 use crate::held::PlainRig;
 use crate::state::PlainState;
@@ -120,7 +120,7 @@ pub extern "C" fn yatesorrel_rig_record(rig: &PlainRig, index: usize) -> PlainKe
 #[unsafe(no_mangle)]
 pub extern "C" fn yatesorrel_rig_kept(rig: &PlainRig, state: &mut PlainState) -> PlainTold
     ensures unbegun { Unbegun rig.now → (result ≡ own_told NotBegun) × (state.new ≡ state.old) }
-    ensures copied { (r : Held Source) → rig.now ≡ numbers_of r → NothingTold result × (state.new ≡ plain_state r.kept) }
+    ensures copied { (r : Held Source) → rig.now ≡ numbers_of r → (result ≡ told_in None) × (state.new ≡ plain_state r.kept) }
 {
     let Some(held) = rig.rig() else {
         return PlainTold::own(Own::NotBegun);

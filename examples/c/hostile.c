@@ -53,7 +53,7 @@ static void scramble(void *bytes, size_t length)
 
 static int is_number(int number)
 {
-    return number <= 13 || (number >= 21 && number <= 24) || (number >= 31 && number <= 33);
+    return number <= 13 || (number >= 21 && number <= 24) || (number >= 101 && number <= 103);
 }
 
 static void lists_of_nothing(void)
@@ -222,7 +222,7 @@ static void supplies(void)
     HOLDS(yatesorrel_rig_counts(&rig).charges == 1 && rig.supply.charges == 0);
 }
 
-/* Every call of a rig, which has to refuse these bytes by 31 and leave them. */
+/* Every call of a rig, which has to refuse these bytes by 101 and leave them. */
 static void is_refused(yatesorrel_rig *rig)
 {
     static yatesorrel_rig before;

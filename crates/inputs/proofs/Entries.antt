@@ -5,12 +5,11 @@ use Rattle.std.proofs.lemmas.List.{append-nil}
 use Rattle.std.specs.Str.{IsUtf8}
 use Rattle.std.specs.Str.Iter.{split_whitespace_steps, split_whitespace_rest}
 use Rattle.std.specs.declared.str.SplitWhitespace.{SplitWhitespace}
-use Rattle.inputs.specs.declared.prices.Entry.{Entry}
 use Rattle.inputs.specs.declared.prices.PriceName.{PriceName}
 use Rattle.inputs.specs.Number.{number}
 use Rattle.inputs.specs.Prices.{name_of, entry_with, entry_in, entry_of}
 use Rattle.inputs.specs.Text.{words}
-use Rattle.inputs.proofs.Taking.{Taken, taken, none_left}
+use Rattle.inputs.proofs.Taking.{taken, none_left}
 use Rattle.inputs.proofs.Wording.{YieldsList-from_words}
 
 -- the words of the line are these, and those that are left
@@ -36,9 +35,6 @@ ends_before_name so t step = ap entry_in (words_ended so t step)
 
 pub ends_before_price : {line name : List ℕ} {it : SplitWhitespace} → WordsSoFar line (name ∷ []) it → (t : SplitWhitespace) → split_whitespace_steps it None t → entry_of line ≡ None
 ends_before_price so t step = ap entry_in (words_ended so t step)
-
-unnamed : (price : Option ℕ) → entry_with None price ≡ None
-unnamed price = refl
 
 unpriced : (name : Option PriceName) → entry_with name None ≡ None
 unpriced (Some name) = refl

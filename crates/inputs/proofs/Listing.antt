@@ -1,5 +1,5 @@
 -- A price list as it is read line by line.
-use Rattle.std.proofs.Common.{◌≡◌, ℕ, List, [], ◌∷◌, Option, Some, None, Result, Ok, Err, refl, ap}
+use Rattle.std.proofs.Common.{◌≡◌, ℕ, List, ◌∷◌, Option, Some, None, Result, Err, ap}
 use Rattle.std.specs.Option.{option_map_or}
 use Rattle.inputs.specs.declared.prices.PricesError.{PricesError}
 use Rattle.inputs.specs.declared.prices.PricesError.TheVariants.{Line}

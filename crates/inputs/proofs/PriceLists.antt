@@ -1,6 +1,6 @@
 -- A text is accepted just where its lines say a price list.
-use Rattle.std.proofs.Common.{◌≡◌, ◌≢◌, ℕ, ◌<◌, ◌^◌, Bool, true, false, nat_lt, List, [], ◌∷◌, length, get_or, set, replicate, Option, Some, None, IsSome, is_some, Result, Ok, Err, ◌⊎◌, inl, inr, ⊎_elim, All, AllPairs, Any, refl, sym, ap, subst, ◌∙◌, arith, if◌then◌else◌, bytes_eq, codes}
-use Rattle.std.proofs.lemmas.Bool.{cond-true, cond-false, lt-ltb, ltb-true, le-ltb, cases_eq, cases_lt, and_parts, false≢true}
+use Rattle.std.proofs.Common.{◌≡◌, ◌≢◌, ℕ, ◌<◌, ◌^◌, Bool, true, false, List, [], ◌∷◌, length, get_or, set, replicate, Option, Some, None, IsSome, is_some, Result, Ok, Err, ◌⊎◌, inl, inr, ⊎_elim, All, AllPairs, Any, refl, sym, ap, subst, ◌∙◌, arith, if◌then◌else◌, bytes_eq, codes}
+use Rattle.std.proofs.lemmas.Bool.{cond-true, cond-false, lt-ltb, le-ltb, cases_eq, cases_lt, false≢true}
 use Rattle.std.proofs.lemmas.List.{length-set, get_or-set_same, get_or-set_other, length-replicate, get_or-replicate, get_or_past}
 use Rattle.std.proofs.lemmas.List.Elements.{All-nil, All-cons, All-head, All-tail, All-weaker}
 use Rattle.std.proofs.lemmas.List.Kept.{AllPairs-cons}
@@ -8,9 +8,8 @@ use Rattle.std.specs.Option.{option_map, option_map_or, option_and_then}
 use Rattle.inputs.specs.declared.prices.Entry.{Entry}
 use Rattle.inputs.specs.declared.prices.PriceName.{PriceName}
 use Rattle.inputs.specs.declared.prices.PriceName.TheVariants.{Opcode, Save}
-use Rattle.inputs.specs.declared.prices.PricesError.TheVariants.{Line}
-use Rattle.inputs.specs.Number.{number, is_number}
-use Rattle.inputs.specs.Prices.{name_of, entry_with, entry_in, entry_of, place, name_at, entered, sheet_from, prices_from, prices_of, whole, SaysOther, PriceList, PricesRight}
+use Rattle.inputs.specs.Number.{number}
+use Rattle.inputs.specs.Prices.{name_of, entry_with, entry_in, entry_of, place, name_at, entered, sheet_from, prices_from, prices_of, SaysOther, PriceList, PricesRight}
 use Rattle.inputs.specs.Text.{behind, words}
 use Rattle.inputs.proofs.Elements.{Any-here, Any-there, Any-nil, Any-cases, AllPairs-head, AllPairs-tail, AllPairs-nil}
 use Rattle.inputs.proofs.Wholes.{all_known, whole_says}

@@ -1,5 +1,5 @@
 -- What `strip_prefix` gives at a text.
-use Rattle.std.proofs.Common.{◌≡◌, ℕ, List, ◌++◌, length, drop, nat_eq, Bool, true, false, Option, Some, None, Bor, MatchOption, refl, sym, ap, subst, ◌∙◌}
+use Rattle.std.proofs.Common.{◌≡◌, ℕ, List, drop, nat_eq, true, false, Option, Some, None, Bor, MatchOption, sym, ap, subst, ◌∙◌}
 use Rattle.std.proofs.lemmas.Bool.{cond-true, cond-false}
 use Rattle.std.proofs.lemmas.Str.Pattern.{starts_text}
 use Rattle.std.specs.Str.{IsCharBoundary}

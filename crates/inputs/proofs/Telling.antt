@@ -1,5 +1,5 @@
 -- Answers about words, and the errors that they hand on.
-use Rattle.std.proofs.Common.{◌≡◌, ℕ, suc, ◌≤◌, ◌-◌, List, [], ◌∷◌, length, get_or, take, drop, Result, Ok, Err, Bor, refl, ap, sym, ◌∙◌, arith}
+use Rattle.std.proofs.Common.{◌≡◌, ℕ, ◌≤◌, ◌-◌, List, [], ◌∷◌, length, get_or, take, drop, Result, Ok, Err, Bor, ap, sym, arith}
 use Rattle.std.proofs.lemmas.List.{take_rest}
 use Rattle.inputs.specs.declared.command.CommandError.{CommandError}
 use Rattle.inputs.specs.declared.command.CommandError.TheVariants.{NoSuchCommand, Misused, OutOfMemory}

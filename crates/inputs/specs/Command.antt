@@ -1,24 +1,30 @@
 -- The command line: the words after the program's name, and what they ask for. Each function below reads the words of one command as its usage has them.
 --
--- Text, Words                the bytes of a word; the words of a command line
--- Asked                      what a command line asks for
--- Rehearsing                 the round, tape and supply of a rehearsal, its prices, its cuts in order and how many steps are asked
--- Chosen                     the options of a rehearsal so far: a file of prices, the cuts in order, and how many steps are asked
--- misused verb how           the error that this command was misused in this way
--- read_then r f              what f makes of the value of r; its error stays
--- number_in verb word        the number below 2^64 that a word writes
--- supply_in verb word        the supply that a word names
--- prices_in verb words       no words, or --prices FILE: the file, if there is one
--- first verb given value      a value for what has none so far
--- chosen_with verb c o v     the options c with one more: --prices FILE once, --cut N, --steps N once, of which at most 1,000,000 are asked
--- chosen_from verb c words   the options c with those that the words make, two by two
--- rehearsal_in verb ws       ROUND TAPE SUPPLY and the options
--- list_of, certify_of, place_of, headroom_of, run_of, report_of, alone      the commands, by the words behind their names
--- command_of words           what a command line asks for, or what is wrong with it
--- texts words, rehearsing r, asked c      a list of words, a rehearsal and a command as texts, numbers and lists
--- Told view expected r       r is what is expected, seen by view, unless memory ran out
--- CommandTold words r        r is what these words ask for; memory runs out only where a rehearsal is asked
-use Rattle.std.specs.Prelude.{◌≡◌, ℕ, ◌^◌, List, [], ◌∷◌, ◌++◌, map, codes, bytes_eq, Option, Some, None, unwrap_or, min, Result, Ok, Err, IsErrOf, ⊤, ◌⊎◌, if◌then◌else◌}
+-- Text, Words                 the bytes of a word; the words of a command line
+-- Rehearsing                  the words of a rehearsal, its supply, its cuts in order and how many steps are asked
+-- Asked                       what a command line asks for
+-- misused v how               the error that the command v was misused in this way
+-- read_then r f               what f makes of the value of r; its error stays
+-- or_misused v how o          the value of o, or this error
+-- number_in v word            the number below 2^64 that a word writes
+-- supply_in v word            the supply that a word names
+-- prices_in v words           no words, or --prices FILE: the file, if there is one
+-- Chosen                      the options of a rehearsal so far: a file of prices, the cuts in order, and how many steps are asked
+-- first v given value         a value for what has none so far
+-- chosen_with v c opt value   the options c with one more: --prices FILE once, --cut N, or --steps N once
+-- chosen_from v c words       the options c with those that the words make, two by two
+-- chosen_in v words           the options that the words make
+-- most_steps                  the most steps that are asked; more are cut to it, and it is asked where no number is given
+-- rehearsing_with, rehearsal_in   a rehearsal of ROUND TAPE SUPPLY and its options
+-- supply_among, supply_if     the word of a supply among the words behind headroom's round, and its supply
+-- list_of, certify_of, place_of, headroom_of, run_of, report_of   the commands, by the words behind their names
+-- alone v asked words         a command that takes no words
+-- named name words            the command of this name
+-- command_of words            what a command line asks for, or what is wrong with it
+-- texts, chosen, rehearsing, asked   words, options, a rehearsal and a command as texts, lists and numbers
+-- Told view expected r        r is what is expected, seen by view, unless memory ran out
+-- Rehearses words             the words ask for a rehearsal
+use Rattle.std.specs.Prelude.{◌≡◌, ℕ, ◌^◌, List, [], ◌∷◌, ◌++◌, map, codes, bytes_eq, Option, Some, None, unwrap_or, min, Result, Ok, Err, ⊤, ◌⊎◌, if◌then◌else◌}
 use Rattle.std.specs.Borrow.{Bor}
 use Rattle.std.specs.Option.{option_copied}
 use Rattle.inputs.specs.declared.command.Command.{Command}
@@ -140,7 +146,7 @@ place_of (round ∷ budget ∷ out ∷ options) =
     read_then (number_in verb.Place budget) (λ budget. read_then (prices_in verb.Place options) (λ prices. Ok (place round budget out prices)))
 place_of _ = misused verb.Place misuse.Words
 
--- the word of a supply, where one stands before an option and its value or behind them, and the option's words
+-- a supply stands before an option and its value, or behind them, or alone
 abbrev pub supply_among : Words → Option Text × Words
 supply_among (word ∷ []) = (Some word, [])
 supply_among (a ∷ b ∷ c ∷ []) = if bytes_eq a (codes "--prices") then (Some c, a ∷ b ∷ []) else (Some a, b ∷ c ∷ [])
@@ -172,7 +178,6 @@ abbrev pub report_of : Words → Result Asked CommandError
 report_of (round ∷ tape ∷ supply ∷ out ∷ options) = read_then (rehearsal_in verb.Report round tape supply options) (λ r. Ok (report r out))
 report_of _ = misused verb.Report misuse.Words
 
--- a command of one word
 abbrev pub alone : Verb → Asked → Words → Result Asked CommandError
 alone v asked [] = Ok asked
 alone v asked _ = misused v misuse.Words
@@ -228,3 +233,7 @@ Told view expected (Ok x) = expected ≡ Ok (view x)
 Told view expected (Err (Misused v how)) = expected ≡ Err (Misused v how)
 Told view expected (Err NoSuchCommand) = expected ≡ Err NoSuchCommand
 Told view expected (Err OutOfMemory) = ⊤
+
+abbrev pub Rehearses : Words → Type 0
+Rehearses [] = ⊥
+Rehearses (name ∷ rest) = (name ≡ codes "run") ⊎ (name ≡ codes "report")

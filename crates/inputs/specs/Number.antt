@@ -3,7 +3,7 @@
 -- all_digits radix ds       whether each byte of ds is a digit in this radix
 -- is_number radix limit ds  whether ds is one digit or more and the number that they write is below the limit
 -- number radix limit word   the number that a word writes, which may begin with a plus, if there is one below the limit
-use Rattle.std.specs.Prelude.{ℕ, ◌<◌, Bool, ◌&&◌, nat_lt, List, length, Option, Some, None, if◌then◌else◌}
+use Rattle.std.specs.Prelude.{ℕ, Bool, ◌&&◌, nat_lt, List, length, Option, Some, None, if◌then◌else◌}
 use Rattle.std.specs.Char.{digit_value}
 use Rattle.std.specs.List.{list_all}
 use Rattle.std.specs.Str.Parse.{digits_value, without_leading_plus}

@@ -1,17 +1,21 @@
 -- A price list: a price for each opcode byte and one for a saving, a line each.
 --
 -- name_of word          what a price is for: save, or an opcode byte as 0x and hexadecimal digits; none for another word
+-- entry_with name price the entry of a name and a price, where there are both
 -- entry_in words        the entry that two words make, a name and a price below 2^16, or none
 -- entry_of line         the entry that a line says, or none
 -- place name            where a name stands in a list: an opcode at its number, a saving at 256, behind them all
 -- name_at place         the name that stands there
 -- entered sheet entry   the prices so far with an entry more; none where there is no entry, or its name has a price
 -- sheet_from sheet ls   the prices so far and those of the lines ls, or the number of the first line that is wrong
+-- whole_unless k sheet  all prices, unless the name at k has none
 -- whole sheet           all prices, or the first name that has none
+-- prices_from r         all prices of the sheet r, or the line that is wrong
 -- prices_of ls          what reading the lines ls answers
 -- SaysOther a b         the lines a and b say no entries of one name
 -- PriceList ls prices   the lines ls say these 257 prices: each says an entry, no two say one name, and each price is said
-use Rattle.std.specs.Prelude.{◌≡◌, ◌≢◌, ℕ, ◌+◌, ◌^◌, ◌<◌, Bool, nat_lt, List, [], ◌∷◌, length, map, set, replicate, slice_index, slice_index_or, position, codes, bytes_eq, Option, Some, None, IsSome, is_some, is_none, unwrap_or, option_and_then, Result, Ok, Err, All, AllPairs, Any, if◌then◌else◌, ◌↔◌}
+-- PricesRight ls r      r is Ok prices just where the lines ls say these prices
+use Rattle.std.specs.Prelude.{◌≡◌, ◌≢◌, ℕ, ◌^◌, ◌<◌, nat_lt, List, [], ◌∷◌, length, map, set, replicate, slice_index, slice_index_or, position, codes, bytes_eq, Option, Some, None, IsSome, is_some, is_none, unwrap_or, option_and_then, Result, Ok, Err, All, AllPairs, Any, if◌then◌else◌, ◌↔◌}
 use Rattle.std.specs.Option.{option_map, option_map_or}
 use Rattle.inputs.specs.declared.prices.Entry.{Entry}
 use Rattle.inputs.specs.declared.prices.PriceName.{PriceName}
@@ -77,6 +81,5 @@ pub record PriceList (lines : List (ℕ × List ℕ)) (prices : List ℕ) : Type
   pub count : length prices ≡ 257
   pub each : (k : ℕ) → k < 257 → Any (λ line. entry_of line.1 ≡ Some (record { name = name_at k; price = slice_index prices k })) lines
 
--- a text is accepted just where its lines say a price list, which is then the answer
 abbrev pub PricesRight : List (ℕ × List ℕ) → Result (List ℕ) PricesError → Type 0
 PricesRight lines result = (prices : List ℕ) → (result ≡ Ok prices) ↔ PriceList lines prices

@@ -1,9 +1,10 @@
 -- The tape that a text writes: a reading a line.
 --
--- reading line      the reading that a line says, if it is one
+-- reading line      the reading that a line says, a number below 2^32, if it is one
 -- with_reading r t  the tape t with the reading r put first; what is wrong with t stays
+-- tape_with n r t   the tape of line n, which says the reading r or none, and of the lines behind it, t
 -- tape_of lines     the readings of the said lines in order, or the number of the first line that is no reading
--- TapeTold lines r  what reading these lines answers: their tape, or the number of the wrong line, unless memory ran out
+-- TapeTold lines r  r is the tape of these lines, or the number of the wrong line, unless memory ran out
 use Rattle.std.specs.Prelude.{◌≡◌, ℕ, ◌^◌, List, [], ◌∷◌, Option, Some, None, Result, Ok, Err, Vec, ⊤}
 use Rattle.inputs.specs.declared.tape.TapeError.{TapeError}
 use Rattle.inputs.specs.declared.tape.TapeError.TheVariants.{Line, OutOfMemory}
@@ -16,7 +17,6 @@ abbrev pub with_reading : ℕ → Result (List ℕ) ℕ → Result (List ℕ) �
 with_reading r (Ok readings) = Ok (r ∷ readings)
 with_reading r (Err line) = Err line
 
--- what a line adds to the tape of those behind it
 abbrev pub tape_with : ℕ → Option ℕ → Result (List ℕ) ℕ → Result (List ℕ) ℕ
 tape_with n (Some r) t = with_reading r t
 tape_with n None t = Err n

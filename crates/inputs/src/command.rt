@@ -1,7 +1,7 @@
 // The command line: what its words ask for.
-ghost use Rattle.std.specs.Prelude.{◌≡◌, IsOk, Result, Ok, Err};
+ghost use Rattle.std.specs.Prelude.{◌≡◌, ◌≢◌, IsErrOf};
 ghost use Rattle.std.specs.Option.{option_copied};
-ghost use Rattle.inputs.specs.Command.{Told, texts, asked, number_in, supply_in, prices_in, first, supply_among, supply_if, chosen, chosen_with, chosen_in, rehearsing, rehearsal_in, list_of, certify_of, place_of, headroom_of, run_of, report_of, alone, command_of};
+ghost use Rattle.inputs.specs.Command.{Told, texts, asked, number_in, supply_in, prices_in, first, supply_among, supply_if, chosen, chosen_with, chosen_in, rehearsing, rehearsal_in, list_of, certify_of, place_of, headroom_of, run_of, report_of, alone, command_of, Rehearses};
 
 use crate::number::u64_of;
 use crate::supply::{SupplyWord, read_supply};
@@ -169,7 +169,8 @@ fn named_supply(verb: Verb, word: &str) -> Result<SupplyWord, CommandError>
 
 // No more words, or a file of prices.
 fn read_prices<'a>(verb: Verb, words: &'a [&'a str]) -> Result<Option<&'a str>, CommandError>
-    ensures { Told option_copied (prices_in verb (texts words.now)) result }
+    ensures told { Told option_copied (prices_in verb (texts words.now)) result }
+    ensures never { result ≢ Err CommandError.OutOfMemory }
 {
     match *words {
         [] => Ok(None),
@@ -265,7 +266,8 @@ fn read_rehearsal<'a>(
 }
 
 fn read_list<'a>(words: &'a [&'a str]) -> Result<Command<'a>, CommandError>
-    ensures { Told asked (list_of (texts words.now)) result }
+    ensures told { Told asked (list_of (texts words.now)) result }
+    ensures never { result ≢ Err CommandError.OutOfMemory }
 {
     let [round, rest @ ..] = words else {
         return Err(Verb::List.misused(Misuse::Words));
@@ -275,7 +277,8 @@ fn read_list<'a>(words: &'a [&'a str]) -> Result<Command<'a>, CommandError>
 }
 
 fn read_certify<'a>(words: &'a [&'a str]) -> Result<Command<'a>, CommandError>
-    ensures { Told asked (certify_of (texts words.now)) result }
+    ensures told { Told asked (certify_of (texts words.now)) result }
+    ensures never { result ≢ Err CommandError.OutOfMemory }
 {
     let [round, budget, rest @ ..] = words else {
         return Err(Verb::Certify.misused(Misuse::Words));
@@ -290,7 +293,8 @@ fn read_certify<'a>(words: &'a [&'a str]) -> Result<Command<'a>, CommandError>
 }
 
 fn read_place<'a>(words: &'a [&'a str]) -> Result<Command<'a>, CommandError>
-    ensures { Told asked (place_of (texts words.now)) result }
+    ensures told { Told asked (place_of (texts words.now)) result }
+    ensures never { result ≢ Err CommandError.OutOfMemory }
 {
     let [round, budget, out, rest @ ..] = words else {
         return Err(Verb::Place.misused(Misuse::Words));
@@ -334,7 +338,8 @@ fn supply_if(verb: Verb, word: Option<&str>) -> Result<Option<SupplyWord>, Comma
 }
 
 fn read_headroom<'a>(words: &'a [&'a str]) -> Result<Command<'a>, CommandError>
-    ensures { Told asked (headroom_of (texts words.now)) result }
+    ensures told { Told asked (headroom_of (texts words.now)) result }
+    ensures never { result ≢ Err CommandError.OutOfMemory }
 {
     let [round, rest @ ..] = words else {
         return Err(Verb::Headroom.misused(Misuse::Words));
@@ -370,7 +375,8 @@ fn read_report<'a>(heap: Global, words: &'a [&'a str]) -> Result<Command<'a>, Co
 }
 
 fn alone<'a>(verb: Verb, command: Command<'a>, words: &[&str]) -> Result<Command<'a>, CommandError>
-    ensures { Told asked (alone verb (asked command.entry) (texts words.now)) result }
+    ensures told { Told asked (alone verb (asked command.entry) (texts words.now)) result }
+    ensures never { result ≢ Err CommandError.OutOfMemory }
 {
     if words.is_empty() {
         Ok(command)
@@ -381,7 +387,8 @@ fn alone<'a>(verb: Verb, command: Command<'a>, words: &[&str]) -> Result<Command
 
 // What the words behind the program's name ask for, or what is wrong with them.
 pub fn read_command<'a>(heap: Global, words: &'a [&'a str]) -> Result<Command<'a>, CommandError>
-    ensures { Told asked (command_of (texts words.now)) result }
+    ensures told { Told asked (command_of (texts words.now)) result }
+    ensures memory { IsErrOf result CommandError.OutOfMemory → Rehearses (texts words.now) }
 {
     let [name, rest @ ..] = words else {
         return Ok(Command::Guide);

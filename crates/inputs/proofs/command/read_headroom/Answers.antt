@@ -5,8 +5,8 @@ use Rattle.inputs.specs.Command.{asked, texts, supply_among, supply_if, headroom
 use Rattle.inputs.proofs.Telling.{texts_first, told_err, headroom_failed}
 use Rattle.inputs.proofs.command.read_headroom.Goals as goal
 
-pub returns-in_err-supply : goal.returns-in_err-supply
-returns-in_err-supply c =
+pub returns-in_err-supply-clause-told : goal.returns-in_err-supply-clause-told
+returns-in_err-supply-clause-told c =
     let d : Bor (List ℕ) = record { ref_ptr = (0, 0); now = [] } in
     let words = c.args.words.now in
     let rest = take (length words - 1) (drop 1 words) in

@@ -1,4 +1,4 @@
-use Rattle.std.proofs.Common.{◌≡◌, ℕ, ◌-◌, List, [], Bor, get_or, length, take, drop, ap, ◌∙◌}
+use Rattle.std.proofs.Common.{ℕ, ◌-◌, List, [], Bor, get_or, length, take, drop, ap, ◌∙◌}
 use Rattle.inputs.specs.Command.{chosen, chosen_from, texts}
 use Rattle.inputs.proofs.Telling.{texts_two, chosen_on}
 use Rattle.inputs.proofs.command.read_options.Goals as goal

@@ -1,4 +1,4 @@
-use Rattle.std.proofs.Common.{◌≡◌, ℕ, ◌-◌, List, [], Bor, Result, Ok, Err, get_or, length, take, drop, ap, ◌∙◌}
+use Rattle.std.proofs.Common.{ℕ, ◌-◌, List, [], Bor, Ok, get_or, length, take, drop, ap, ◌∙◌}
 use Rattle.std.proofs.lemmas.Result.{err_from_is_err_and}
 use Rattle.inputs.specs.declared.command.Verb.TheVariants as verb
 use Rattle.inputs.specs.Command.{run, asked, texts, read_then, rehearsing, rehearsal_in, run_of}

@@ -1,6 +1,4 @@
-use Rattle.std.proofs.Common.{◌≡◌, ℕ, ◌^◌, [], ◌∷◌, Some, None, ap, sym, ◌∙◌, arith}
-use Rattle.inputs.specs.Number.{number}
-use Rattle.inputs.specs.Prices.{name_of}
+use Rattle.std.proofs.Common.{sym, ◌∙◌, arith}
 use Rattle.inputs.proofs.Entries.{words_begun, word_came, ends_before_name, ends_before_price, no_name, no_price, two_only}
 use Rattle.inputs.proofs.prices.entry_of.Goals as goal
 

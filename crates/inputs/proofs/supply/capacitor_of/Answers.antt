@@ -1,5 +1,5 @@
-use Rattle.std.proofs.Common.{◌≡◌, [], ◌∷◌, Some, None, ap, sym, ◌∙◌, arith}
-use Rattle.inputs.specs.Supply.{numbers_of, capacitor_of}
+use Rattle.std.proofs.Common.{◌≡◌, [], ◌∷◌, None, ap, sym, ◌∙◌, arith}
+use Rattle.inputs.specs.Supply.{capacitor_of}
 use Rattle.inputs.proofs.Parting.{NumbersSoFar, number_of, numbers_begun, part_came, number_came, numbers_ended, four_only}
 use Rattle.inputs.proofs.supply.capacitor_of.Goals.{In_ok-microfarads, In_ok-top, In_ok-bottom, In_ok-unit}
 use Rattle.inputs.proofs.supply.capacitor_of.Goals as goal

@@ -1,8 +1,8 @@
 -- The tables of a lawful image say what its graph says.
-use Rattle.std.proofs.Common.{◌≡◌, ℕ, ◌-◌, ◌<◌, ◌≤◌, Bool, true, false, cond, eqb, ◌↔◌, List, [], ◌∷◌, ◌++◌, get_or, ℤ, Some, None, Option, sym, refl, ap, ◌∙◌, subst, inl, inr, ⊎_elim, arith}
+use Rattle.std.proofs.Common.{◌≡◌, ℕ, ◌-◌, ◌<◌, ◌≤◌, Bool, true, false, cond, ltb, eqb, ◌↔◌, List, [], ◌∷◌, ◌++◌, get_or, ℤ, Some, None, Option, sym, refl, ap, ◌∙◌, subst, inl, inr, ⊎_elim, arith}
 use mathlib.Core.Path.{subst⁻¹}
 use lib.ListN.{get_or-eq_default}
-use Rattle.std.proofs.lemmas.Bool.{and_parts, and_from, or_cases, or_left, or_right, eqb-true, eq-eqb, cases_eq, cases_lt}
+use Rattle.std.proofs.lemmas.Bool.{and_parts, and_from, or_cases, or_left, or_right, ltb-true, ltb-false, lt-ltb, eqb-true, eq-eqb, cases_eq}
 use Rattle.isa.specs.declared.instruction.Instruction.{Instruction}
 use Rattle.isa.specs.declared.instruction.Role.{Role}
 use Rattle.isa.specs.declared.instruction.Role.TheVariants.{Save}
@@ -23,7 +23,7 @@ use Rattle.walks.proofs.Imaging.{lawful_sound}
 use Rattle.walks.proofs.Walking.{reach_below}
 use Rattle.search.specs.Reach.{Reaches, itself, onward as further, Tells}
 use Rattle.tables.specs.Node.{numbered, paired, successors_of, Tabled}
-use Rattle.tables.specs.Start.{way_node, saved_at, started_by}
+use Rattle.tables.specs.Start.{way_node, saved_at, started_by, way_net, Begins}
 use Rattle.tables.specs.Walk.{walk_node}
 
 pub slots_small : (image : List ℕ) → Lawful image → slot_count image ≤ 1024
@@ -97,57 +97,91 @@ module _ (m : Model) (image : List ℕ) (lawful : Lawful image) where
         slot = walk_slot n (instruction_at image n) ∙ sym (ap (λ (x : Node). x.slot) e);
       }
 
-  -- over the table of all ways out, slot 0 reaches what is reachable
-  module _ (nodes : List Node) (t : Tabled no_node nodes (λ i. way_node i (instruction_at image i)) 1024) where
-    ways_there : (n : ℕ) → n < 1024 → (tabled nodes).ways n ≡ g.ways n
-    ways_there n h = ap (λ (x : Node). ways_of x.successors) (t.holds n h) ∙ node_ways n
+  -- over the net of all ways out, slot 0 reaches what is reachable
+  net_way : (n s : ℕ) → In s ((way_net image).ways n) → In s (g.ways n)
+  net_way n s i = go (ltb n 1024) i
+    where
+      go : (b : Bool) → In s (cond b (ways_of (way_node n (instruction_at image n)).successors) []) → In s (g.ways n)
+      go true i = subst (In s) (node_ways n) i
+      go false i = absurd i
 
-    way_in : (n s : ℕ) → In s ((tabled nodes).ways n) → In s (g.ways n)
-    way_in n s i =
-        ⊎_elim
-        (λ (h : n < 1024). subst (In s) (ways_there n h) i)
-        (λ (h : 1024 ≤ n).
-        let l = t.size in
-        let e : node_at nodes n ≡ no_node = get_or-eq_default nodes no_node (omega arith) in
-        absurd (let none : In s [] = subst (λ (x : Node). In s (ways_of x.successors)) e i in none))
-        (cases_lt n 1024)
+  way_net_there : (n : ℕ) → n < 1024 → (way_net image).ways n ≡ g.ways n
+  way_net_there n h = ap (λ (b : Bool). cond b (ways_of (way_node n (instruction_at image n)).successors) []) (lt-ltb n 1024 h) ∙ node_ways n
 
-    reaches_reachable : (n : ℕ) → Reaches (tabled nodes) 0 n → Reachable g n
-    reaches_reachable n itself = first
-    reaches_reachable n (further {m = k} r i) = next (reaches_reachable k r) (way_in k n i)
+  reaches_reachable : (n : ℕ) → Reaches (way_net image) 0 n → Reachable g n
+  reaches_reachable n itself = first
+  reaches_reachable n (further {m = k} r i) = next (reaches_reachable k r) (net_way k n i)
 
-    reachable_reaches : (n : ℕ) → Reachable g n → Reaches (tabled nodes) 0 n
-    reachable_reaches n first = itself
-    reachable_reaches n (next {n = k} r i) =
-        let b = reach_below g sound k r in
-        let small = slots_small image lawful in
-        further (reachable_reaches k r) (subst⁻¹ (In n) (ways_there k (omega arith)) i)
+  reachable_reaches : (n : ℕ) → Reachable g n → Reaches (way_net image) 0 n
+  reachable_reaches n first = itself
+  reachable_reaches n (next {n = k} r i) =
+      let b = reach_below g sound k r in
+      let small = slots_small image lawful in
+      further (reachable_reaches k r) (subst⁻¹ (In n) (way_net_there k (omega arith)) i)
 
-    module _ (reached : List Bool) (tells : Tells reached (Reaches (tabled nodes) 0)) where
-      saved : (s : ℕ) → s < 1024 → (saved_at image reached s ≡ true) ↔ (Reachable g s × (g.role s ≡ Save))
-      unfolding role_at
-      saved s h = (
-        λ e.
-            let p = and_parts (is_save (role_at image s)) (get_or reached s false) e in
-            (reaches_reachable s ((tells s h).0 p.1), save_role (role_at image s) p.0),
-        λ (q : Reachable g s × (role_at image s ≡ Save)).
-            and_from (is_save (role_at image s)) (get_or reached s false) (ap is_save q.1) ((tells s h).1 (reachable_reaches s q.0)),
-      )
+  -- so the starts of any image are those of its graph, where it is lawful
+  begins_start : (n : ℕ) → Begins image n ↔ Start g n
+  unfolding role_at
+  begins_start n = (there, back)
+    where
+      there : Begins image n → Start g n
+      there (inl e) = inl e
+      there (inr (s, r, role, e)) = inr (s, reaches_reachable s r, role, e)
 
-      pub starts_told : (starts : List Bool) → Tabled false starts (started_by image reached) 1024 → Tells starts (Start g)
-      starts_told starts u n h = (there, back)
-        where
-          there : get_or starts n false ≡ true → Start g n
-          there e =
-              ⊎_elim (λ (z : n ≡ 0). inl z)
-              (λ (ne : n ≡ 0 → ⊥).
-              ⊎_elim (λ (z : eqb n 0 ≡ true). inl (eqb-true n 0 z))
-              (λ (z : saved_at image reached (n - 1) ≡ true). let p = (saved (n - 1) (omega arith)).0 z in inr (n - 1, p.0, p.1, omega arith))
-              (or_cases (eqb n 0) (saved_at image reached (n - 1)) (sym (u.holds n h) ∙ e)))
-              (cases_eq n 0)
+      back : Start g n → Begins image n
+      back (inl e) = inl e
+      back (inr (s, r, role, e)) = inr (s, reachable_reaches s r, role, e)
 
-          back : Start g n → get_or starts n false ≡ true
-          back (inl e) = u.holds n h ∙ or_left (eqb n 0) (saved_at image reached (n - 1)) (eq-eqb n 0 e)
-          back (inr (s, r, role, e)) =
-              let same : n - 1 ≡ s = omega arith in
-              u.holds n h ∙ or_right (eqb n 0) (saved_at image reached (n - 1)) (ap (saved_at image reached) same ∙ (saved s (omega arith)).1 (r, role))
+  pub starts_told : (starts : List Bool) → Tells starts (Begins image) → Tells starts (Start g)
+  starts_told starts tells n h =
+      let t = tells n h in
+      let b = begins_start n in
+      (λ e. b.0 (t.0 e), λ s. t.1 (b.1 s))
+
+-- of any image
+module _ (image : List ℕ) (nodes : List Node) (t : Tabled no_node nodes (λ i. way_node i (instruction_at image i)) 1024) where
+  same_ways : (n : ℕ) → (tabled nodes).ways n ≡ (way_net image).ways n
+  same_ways n = go (ltb n 1024) refl
+    where
+      go : (b : Bool) → ltb n 1024 ≡ b → (tabled nodes).ways n ≡ cond b (ways_of (way_node n (instruction_at image n)).successors) []
+      go true e = ap (λ (x : Node). ways_of x.successors) (t.holds n (ltb-true n 1024 e))
+      go false e =
+          let l = t.size in
+          let h = ltb-false n 1024 e in
+          ap (λ (x : Node). ways_of x.successors) (get_or-eq_default nodes no_node (omega arith))
+
+  to_net : (n : ℕ) → Reaches (tabled nodes) 0 n → Reaches (way_net image) 0 n
+  to_net n itself = itself
+  to_net n (further {m = k} r i) = further (to_net k r) (subst (In n) (same_ways k) i)
+
+  of_net : (n : ℕ) → Reaches (way_net image) 0 n → Reaches (tabled nodes) 0 n
+  of_net n itself = itself
+  of_net n (further {m = k} r i) = further (of_net k r) (subst⁻¹ (In n) (same_ways k) i)
+
+  module _ (reached : List Bool) (tells : Tells reached (Reaches (tabled nodes) 0)) where
+    saved : (s : ℕ) → s < 1024 → (saved_at image reached s ≡ true) ↔ (Reaches (way_net image) 0 s × (role_in (instruction_at image s) ≡ Save))
+    saved s h = (
+      λ e.
+          let p = and_parts (is_save (role_in (instruction_at image s))) (get_or reached s false) e in
+          (to_net s ((tells s h).0 p.1), save_role (role_in (instruction_at image s)) p.0),
+      λ (q : Reaches (way_net image) 0 s × (role_in (instruction_at image s) ≡ Save)).
+          and_from (is_save (role_in (instruction_at image s))) (get_or reached s false) (ap is_save q.1) ((tells s h).1 (of_net s q.0)),
+    )
+
+    pub begins_told : (starts : List Bool) → Tabled false starts (started_by image reached) 1024 → Tells starts (Begins image)
+    begins_told starts u n h = (there, back)
+      where
+        there : get_or starts n false ≡ true → Begins image n
+        there e =
+            ⊎_elim (λ (z : n ≡ 0). inl z)
+            (λ (ne : n ≡ 0 → ⊥).
+            ⊎_elim (λ (z : eqb n 0 ≡ true). inl (eqb-true n 0 z))
+            (λ (z : saved_at image reached (n - 1) ≡ true). let p = (saved (n - 1) (omega arith)).0 z in inr (n - 1, p.0, p.1, omega arith))
+            (or_cases (eqb n 0) (saved_at image reached (n - 1)) (sym (u.holds n h) ∙ e)))
+            (cases_eq n 0)
+
+        back : Begins image n → get_or starts n false ≡ true
+        back (inl e) = u.holds n h ∙ or_left (eqb n 0) (saved_at image reached (n - 1)) (eq-eqb n 0 e)
+        back (inr (s, r, role, e)) =
+            let same : n - 1 ≡ s = omega arith in
+            u.holds n h ∙ or_right (eqb n 0) (saved_at image reached (n - 1)) (ap (saved_at image reached) same ∙ (saved s (omega arith)).1 (r, role))

@@ -8,7 +8,7 @@ ghost use Rattle.walks.specs.ImageGraph.{graph_of};
 ghost use Rattle.search.specs.Reach.{Tells};
 ghost use Rattle.paths.specs.Net.{no_node};
 ghost use Rattle.tables.specs.Node.{Tabled};
-ghost use Rattle.tables.specs.Start.{way_node, saved_at, started_by};
+ghost use Rattle.tables.specs.Start.{way_node, saved_at, started_by, Begins};
 
 use crate::node::successors_of;
 use crate::table::table_of;
@@ -60,6 +60,7 @@ fn start_table(image: &[u8], reached: &[bool; 1024]) -> [bool; 1024]
 // Slot 0, and the slot after each reachable save.
 pub fn starts_of(image: &[u8]) -> [bool; 1024]
     ensures size { length result ≡ 1024 }
+    ensures any { Tells result (Begins image.now) }
     ensures told { Lawful image.now → (m : Model) → Tells result (Start (graph_of m image.now)) }
 {
     let reached = reach_from(&way_table(image), 0);

@@ -6,7 +6,7 @@
 --     Fits v m image room c         a capacitor of c microfarads is within the limits, and the image is accepted at its budget
 --                               (at the largest that the certifier takes, where its budget is larger)
 --     LeastCapacity c           every capacity from c on fits, up to the largest, and none below c
---     CapacityRefused r         why nothing is told: the other numbers are outside their limits, or no budget is accepted
+--     CapacityRefused r         why nothing is told: the other numbers are outside their limits, or else no budget is accepted
 --     CapacityTold x            the answer x tells the least capacity, that none fits, or why neither can be told
 use Rattle.std.specs.Prelude.{ℕ, ◌<◌, ◌≤◌, min, ◌↔◌, List, Some, None, Ok, Err, Option, Result}
 use Rattle.isa.specs.declared.refusal.Refusal.{Refusal}
@@ -41,7 +41,7 @@ module _ (v : Voltages) where
 
     pub data CapacityRefused : Refusal → Type 0 where
       numbers : ((d : ℕ) → Within (rated d) → ⊥) → CapacityRefused SupplyNumbers
-      image_refused : {r : Refusal} → NoBudget m image room r → CapacityRefused r
+      image_refused : {r : Refusal} → Within (rated 1) → NoBudget m image room r → CapacityRefused r
 
     abbrev pub CapacityTold : Result (Option ℕ) Refusal → Type 0
     CapacityTold (Ok (Some c)) = LeastCapacity c

@@ -6,8 +6,9 @@
 --     Goes g n o                o is where the dearest list from n goes on: nowhere from where a walk ends, and else to a node that
 --                               it may go on to, from which the rest costs what n does not
 --     OnwardRight               where a graph is charted, the way out that is found is so
---     Dearest starts worths n   no start has a greater price than n, and none before it as great a one; n is a start where 0 is one
-use Rattle.std.specs.Prelude.{◌≡◌, ℕ, ◌+◌, ◌<◌, ◌≤◌, Bool, true, false, List, [], Some, None, Option, slice_index_or}
+--     Dearest starts worths n   no start has a greater price than n, and none before it as great a one; n is slot 0, or a start that is
+--                               dearer than slot 0
+use Rattle.std.specs.Prelude.{◌≡◌, ℕ, ◌+◌, ◌<◌, ◌≤◌, Bool, true, false, ◌⊎◌, List, [], Some, None, Option, slice_index_or}
 use Rattle.paths.specs.declared.node.Node.{Node}
 use Rattle.paths.specs.declared.node.Successors.{Successors}
 use Rattle.paths.specs.declared.node.Successors.TheVariants.{End, One, Both}
@@ -52,4 +53,4 @@ OnwardRight =
 pub record Dearest (starts : List Bool) (worths : List Worth) (n : ℕ) : Type 0 where
   pub most : (k : ℕ) → k < 1024 → slice_index_or starts k false ≡ true → (worth_at worths k).price ≤ (worth_at worths n).price
   pub lowest : (k : ℕ) → k < n → slice_index_or starts k false ≡ true → (worth_at worths k).price < (worth_at worths n).price
-  pub start : slice_index_or starts 0 false ≡ true → slice_index_or starts n false ≡ true
+  pub start : (n ≡ 0) ⊎ ((slice_index_or starts n false ≡ true) × ((worth_at worths 0).price < (worth_at worths n).price))

@@ -13,4 +13,4 @@ returns-in_err-new-clause-least g c =
 pub returns-in_err-budget-clause-least : goal.returns-in_err-budget-clause-least
 returns-in_err-budget-clause-least g c =
     let out = err_from_is_err_and c.from_residual-in_err-budget.result c.from_residual-in_err-budget.ensures.1 in
-    rw (out.1, out.2) (image_refused c.in_err-budget.ensures.least)
+    rw (out.1, out.2) (image_refused c.in_ok-new.ensures.0 c.in_err-budget.ensures.least)

@@ -61,6 +61,7 @@ const WANTED: &[(&str, &str)] = &[
     ("place", "refused 11, carrying 10"),
     ("least capacity", "some"),
     ("least capacity", "none"),
+    ("least capacity", "the largest"),
     ("least capacity", "refused 13"),
     ("run", "goes on"),
     ("run", "exit"),

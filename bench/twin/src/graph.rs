@@ -90,11 +90,11 @@ impl Node {
             Role::Exit => most() + dearest,
             Role::Idle | Role::Other => most(),
         };
-        let next = instruction.next(slot).map(|next| next as u16);
-        let target = instruction.target(slot).map(|target| target as u16);
-        let onward = match role {
-            Role::Save => None,
-            _ => next.or(target).map(|way| [way, target.unwrap_or(way)]),
+        let onward = match instruction.ways_out(slot) {
+            _ if role == Role::Save => None,
+            (Some(next), Some(target)) => Some([next as u16, target as u16]),
+            (Some(way), None) | (None, Some(way)) => Some([way as u16; 2]),
+            (None, None) => None,
         };
         Node { role, price, onward }
     }

@@ -86,17 +86,18 @@ impl Instruction {
         self.kind == Kind::Jump && self.offset == 0
     }
 
-    /// The next slot, where the instruction goes on to it from `slot`.
+    /// The ways out of the instruction at a slot: the next slot, and the target
+    /// of a jump, which may lie before slot 0.
     #[inline]
-    pub fn next(&self, slot: usize) -> Option<usize> {
-        (!matches!(self.kind, Kind::Jump | Kind::Exit)).then_some(slot + 1)
-    }
-
-    /// The target of a jump from `slot`; it may lie before slot 0.
-    #[inline]
-    pub fn target(&self, slot: usize) -> Option<isize> {
-        matches!(self.kind, Kind::Jump | Kind::Branch(..))
-            .then(|| slot as isize + 1 + isize::from(self.offset))
+    pub fn ways_out(&self, slot: usize) -> (Option<isize>, Option<isize>) {
+        let next = slot as isize + 1;
+        let target = next + isize::from(self.offset);
+        match self.kind {
+            Kind::Branch(..) => (Some(next), Some(target)),
+            Kind::Jump => (None, Some(target)),
+            Kind::Exit => (None, None),
+            _ => (Some(next), None),
+        }
     }
 }
 
@@ -116,10 +117,10 @@ pub(crate) fn instructions(image: &[u8]) -> Result<Vec<Instruction>, Refusal> {
     for (bytes, slot) in slots.iter().zip(0..) {
         instructions.push(Instruction::decode(bytes).map_err(|rule| rule.broken_at(slot))?);
     }
-    let stays = |slot: usize| slot < slots.len();
+    let stays = |way: isize| way.cast_unsigned() < slots.len();
     for (slot, instruction) in instructions.iter().enumerate() {
-        let target = instruction.target(slot).map(|target| target as usize);
-        if !(instruction.next(slot).is_none_or(stays) && target.is_none_or(stays)) {
+        let (next, target) = instruction.ways_out(slot);
+        if !(next.is_none_or(stays) && target.is_none_or(stays)) {
             return Err(Refusal::WayOut { slot: slot as u16 });
         }
     }

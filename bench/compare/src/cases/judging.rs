@@ -129,21 +129,22 @@ pub fn headroom(random: &mut Random, counts: &mut Counts) -> Outcome {
     counts.refusal("least budget", library.answer.refusal.number);
     same("yatesorrel_least_budget", &library, &twin, &given)?;
     same("yatesorrel_least_budget, working list", &working, &twin_working, &given)?;
-    capacity(random, &given, counts)
+    capacity(random, &given, library.budget.max(1), counts)
 }
 
-fn capacity(random: &mut Random, given: &Judged, counts: &mut Counts) -> Outcome {
-    let [_, top, bottom, unit] = match random.below(4) {
-        0 => scripts::ratings(random),
-        1 => [0, 2, 1, 1_000_000],
-        _ => scripts::capacitor_of(random, 400),
+fn capacity(random: &mut Random, given: &Judged, budget: u64, counts: &mut Counts) -> Outcome {
+    let voltages = match random.below(4) {
+        0 => scripts::voltages(random),
+        1 => scripts::voltages_of_the_largest(random, budget),
+        2 => [2, 1, 1_000_000],
+        _ => scripts::voltages_for(random, 400),
     };
-    let voltages = [top, bottom, unit];
     let (mut working, mut twin_working) = (given.working.clone(), given.working.clone());
     let library = ffi::least_capacity(&given.image, &given.prices, voltages, &mut working);
     let twin = mirror::least_capacity(&given.image, &given.prices, voltages, &mut twin_working);
     match (library.answer.refusal.number, library.microfarads) {
         (0, 0) => counts.add("least capacity", "none"),
+        (0, 100_000) => counts.add("least capacity", "the largest"),
         (0, _) => counts.add("least capacity", "some"),
         (number, _) => counts.refusal("least capacity", number),
     }

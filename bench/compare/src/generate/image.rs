@@ -336,7 +336,10 @@ fn bad_slot(random: &mut Random) -> [u8; SLOT_BYTES] {
             let opcode = random.pick(&OPCODES.loads);
             Fields { opcode, dst: 10, ..Fields::default() }.bytes()
         }
-        4 => Fields::call(random.imm()).bytes(),
+        4 => {
+            let other = random.imm();
+            Fields::call(random.pick(&[0, 4, -1, 257, other])).bytes()
+        }
         _ => far_jump(random).bytes(),
     }
 }

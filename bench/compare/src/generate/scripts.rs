@@ -31,6 +31,26 @@ pub fn capacitor_of(random: &mut Random, units: u64) -> [u32; 4] {
     [microfarads as u32, top as u32, bottom as u32, unit as u32]
 }
 
+/// The numbers of a capacitor but for its capacity, at their edges.
+pub fn voltages(random: &mut Random) -> [u32; 3] {
+    let [_, top, bottom, unit] = ratings(random);
+    [top, bottom, unit]
+}
+
+/// The same, of a capacitor that holds about so many units.
+pub fn voltages_for(random: &mut Random, units: u64) -> [u32; 3] {
+    let [_, top, bottom, unit] = capacitor_of(random, units);
+    [top, bottom, unit]
+}
+
+/// Voltages and a unit at which a budget takes about the largest capacitor.
+pub fn voltages_of_the_largest(random: &mut Random, budget: u64) -> [u32; 3] {
+    let bottom = random.below(5000);
+    let per_microfarad = 2 * bottom + 1;
+    let unit = per_microfarad * 50_000 / budget + random.below(2);
+    [bottom as u32 + 1, bottom as u32, unit.clamp(1, 1_000_000) as u32]
+}
+
 /// One call of a script.
 pub fn call(random: &mut Random, cuts: u64) -> Call {
     let kind = match random.below(100) {

@@ -10,6 +10,7 @@
 mod cases;
 mod ffi;
 mod generate;
+mod guarded;
 mod mirror;
 mod random;
 mod report;

@@ -335,9 +335,6 @@ pub type Rig = rig::Rig<Supply>;
 
 /// The rig that some numbers are, or none.
 pub fn rig_of(numbers: &ffi::Rig) -> Option<Rig> {
-    let within = |count: u32, most: u64| u64::from(count) <= most;
-    let counted =
-        within(numbers.attempts, rig::MOST_ATTEMPTS) && within(numbers.cuts, rig::MOST_CUTS);
     let rig = rig::Rig {
         supply: Supply::of(&numbers.supply)?,
         state: state_of(&numbers.state)?,
@@ -347,7 +344,7 @@ pub fn rig_of(numbers: &ffi::Rig) -> Option<Rig> {
         cuts: numbers.cuts.into(),
         attempts: numbers.attempts.into(),
     };
-    counted.then_some(rig)
+    (rig.saves <= rig.attempts).then_some(rig)
 }
 
 /// A rig of the twin, with zeros past the records of its states.

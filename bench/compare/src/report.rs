@@ -126,6 +126,14 @@ pub struct Difference {
     input: String,
 }
 
+impl Difference {
+    /// The same difference, with more of its input.
+    pub fn from(mut self: Box<Self>, input: &dyn Display) -> Box<Difference> {
+        self.input = input.to_string();
+        self
+    }
+}
+
 pub type Outcome = Result<(), Box<Difference>>;
 
 impl Display for Difference {

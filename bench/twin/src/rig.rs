@@ -86,7 +86,8 @@ impl<S: Supply> Rig<S> {
             return Err(Refusal::Attempts);
         }
         self.attempts += 1;
-        let pending = self.state.log.records().len() - self.kept.log.records().len();
+        let kept = self.kept.log.records().len();
+        let pending = self.state.log.records().len().saturating_sub(kept);
         let effect = self.state.step(round.image, round.tape);
         let amount = draws(round.model, &effect, pending as u64);
         if !self.supply.draw(amount) {

@@ -4,6 +4,7 @@ use std::fmt::{self, Display};
 
 use crate::ffi::{self, Prices, Worth};
 use crate::generate::{image, numbers, scripts};
+use crate::guarded::Guarded;
 use crate::mirror;
 use crate::random::Random;
 use crate::report::{Counts, Hex, Outcome, same};
@@ -13,20 +14,24 @@ use crate::report::{Counts, Hex, Outcome, same};
 const MANY_IDLE: usize = 150;
 
 struct Judged {
-    image: Vec<u8>,
+    image: Guarded<u8>,
     prices: Prices,
     budget: u64,
-    working: Vec<Worth>,
+    working: Guarded<Worth>,
 }
 
 impl Display for Judged {
     fn fmt(&self, f: &mut fmt::Formatter<'_>) -> fmt::Result {
-        writeln!(f, "image: {}", Hex(&self.image))?;
+        writeln!(f, "image: {}", Hex(self.image.list()))?;
         writeln!(f, "prices: {:?}", self.prices)?;
         writeln!(f, "budget: {}", self.budget)?;
-        write!(f, "working list: {} entries, {:?}", self.working.len(), self.working.first())
+        let working = self.working.list();
+        write!(f, "working list: {} entries, {:?}", working.len(), working.first())
     }
 }
+
+/// What stands around a working list.
+const GUARD: Worth = Worth { price: 0x5555, slot: 0x55 };
 
 impl Judged {
     /// An image with a budget near what it or its placement costs.
@@ -37,7 +42,10 @@ impl Judged {
             _ => least(&image::turned(&image), &prices),
         };
         let budget = numbers::budget(random, price);
-        Judged { image, prices, budget, working: numbers::working(random) }
+        let before = 1 + random.index(9);
+        let image = Guarded::new(&image, 0x85, before);
+        let working = Guarded::new(&numbers::working(random), GUARD, 2);
+        Judged { image, prices, budget, working }
     }
 }
 
@@ -54,8 +62,7 @@ fn any_image(random: &mut Random, hostile: u64) -> Vec<u8> {
     if random.percent(hostile) {
         return image::hostile(random);
     }
-    let count = image::size(random);
-    image::lawful(random, count)
+    image::any_lawful(random)
 }
 
 pub fn lawful(random: &mut Random, counts: &mut Counts) -> Outcome {
@@ -69,22 +76,18 @@ pub fn certify(random: &mut Random, counts: &mut Counts) -> Outcome {
     let image = any_image(random, 12);
     let given = Judged::of(random, image);
     let (mut working, mut twin_working) = (given.working.clone(), given.working.clone());
-    let image = given.image.clone();
-    let library = ffi::certify(&image, &given.prices, given.budget, &mut working);
-    let twin = mirror::certify(&given.image, &given.prices, given.budget, &mut twin_working);
+    let Judged { image, prices, budget, .. } = &given;
+    let library = ffi::certify(image.list(), prices, *budget, working.list_mut());
+    let twin = mirror::certify(image.list(), prices, *budget, twin_working.list_mut());
     counts.refusal("certify", library.refusal.number);
     same("yatesorrel_certify", &library, &twin, &given)?;
-    same("yatesorrel_certify, working list", &working, &twin_working, &given)?;
-    same("yatesorrel_certify, image", &image, &given.image, &given)
+    same("yatesorrel_certify, working list", &working, &twin_working, &given)
 }
 
 pub fn place(random: &mut Random, counts: &mut Counts) -> Outcome {
     let image = match random.below(12) {
         0 => image::hostile(random),
-        _ => {
-            let count = image::size(random);
-            image::idling(random, count)
-        }
+        _ => image::any_idling(random),
     };
     let idle = idle_slots(&image);
     if idle > MANY_IDLE && !random.percent(10) {
@@ -93,8 +96,9 @@ pub fn place(random: &mut Random, counts: &mut Counts) -> Outcome {
     let given = Judged::of(random, image);
     let (mut working, mut twin_working) = (given.working.clone(), given.working.clone());
     let (mut image, mut twin_image) = (given.image.clone(), given.image.clone());
-    let library = ffi::place(&mut image, &given.prices, given.budget, &mut working);
-    let twin = mirror::place(&mut twin_image, &given.prices, given.budget, &mut twin_working);
+    let Judged { prices, budget, .. } = &given;
+    let library = ffi::place(image.list_mut(), prices, *budget, working.list_mut());
+    let twin = mirror::place(twin_image.list_mut(), prices, *budget, twin_working.list_mut());
     match (library.refusal.number, library.carried.number) {
         (0, _) if image != given.image => counts.add("place", "accepted, saves placed"),
         (0, _) if idle > 0 => counts.add("place", "accepted, idle slots left"),
@@ -124,8 +128,9 @@ pub fn headroom(random: &mut Random, counts: &mut Counts) -> Outcome {
     let image = any_image(random, 15);
     let given = Judged::of(random, image);
     let (mut working, mut twin_working) = (given.working.clone(), given.working.clone());
-    let library = ffi::least_budget(&given.image, &given.prices, &mut working);
-    let twin = mirror::least_budget(&given.image, &given.prices, &mut twin_working);
+    let Judged { image, prices, .. } = &given;
+    let library = ffi::least_budget(image.list(), prices, working.list_mut());
+    let twin = mirror::least_budget(image.list(), prices, twin_working.list_mut());
     counts.refusal("least budget", library.answer.refusal.number);
     same("yatesorrel_least_budget", &library, &twin, &given)?;
     same("yatesorrel_least_budget, working list", &working, &twin_working, &given)?;
@@ -140,8 +145,9 @@ fn capacity(random: &mut Random, given: &Judged, budget: u64, counts: &mut Count
         _ => scripts::voltages_for(random, 400),
     };
     let (mut working, mut twin_working) = (given.working.clone(), given.working.clone());
-    let library = ffi::least_capacity(&given.image, &given.prices, voltages, &mut working);
-    let twin = mirror::least_capacity(&given.image, &given.prices, voltages, &mut twin_working);
+    let Judged { image, prices, .. } = given;
+    let library = ffi::least_capacity(image.list(), prices, voltages, working.list_mut());
+    let twin = mirror::least_capacity(image.list(), prices, voltages, twin_working.list_mut());
     match (library.answer.refusal.number, library.microfarads) {
         (0, 0) => counts.add("least capacity", "none"),
         (0, 100_000) => counts.add("least capacity", "the largest"),

@@ -27,6 +27,7 @@ pub fn input(seed: u64, index: u64, counts: &mut Counts) -> Outcome {
         (4, rigs::rehearse),
         (2, rigs::supplies),
         (2, rigs::spoiled),
+        (3, rigs::strange),
     ]);
     case(&mut random, counts)
 }

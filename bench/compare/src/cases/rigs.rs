@@ -6,6 +6,7 @@ use twin::rig::{self, Rig};
 
 use crate::ffi::{self, Call, Counts as CCounts, KeptRecord, Prices, Reply, State, Supply};
 use crate::generate::{image, numbers, scripts};
+use crate::guarded::Guarded;
 use crate::mirror::{self, Model};
 use crate::random::Random;
 use crate::report::{Counts, Hex, Outcome, same};
@@ -37,10 +38,7 @@ impl Given {
             0 => image::hostile(random),
             1 => image::falling(random),
             2 => image::recording(random),
-            _ => {
-                let count = image::size(random);
-                image::idling(random, count)
-            }
+            _ => image::any_idling(random),
         };
         let mut given = Given {
             image,
@@ -183,6 +181,17 @@ impl<'g> Pair<'g> {
         self.alike("a step or a cut, rig")
     }
 
+    /// Goes on from where the library's rig stands.
+    fn go_on(&mut self, random: &mut Random, twin: mirror::Rig, counts: &mut Counts) -> Outcome {
+        let begun = Spoiled(self.given, *self.rig);
+        self.twin = twin;
+        for _ in 0..4 {
+            let made = self.call(scripts::call(random, 20), counts);
+            made.map_err(|difference| difference.from(&begun))?;
+        }
+        Ok(())
+    }
+
     fn is_over(&self) -> bool {
         self.twin.kept.ending.is_some() || self.twin.attempts >= rig::MOST_ATTEMPTS
     }
@@ -283,20 +292,22 @@ fn spoil(random: &mut Random, given: &mut Given) {
 /// Rehearses a script on both sides, with room for so many replies.
 pub fn script(given: &Given, room: usize, counts: &mut Counts) -> Outcome {
     let rubbish = Reply { count: 9, said_yes: 9, ..Reply::default() };
-    let mut replies = vec![rubbish; room];
+    let mut replies = Guarded::new(&vec![rubbish; room], rubbish, 2);
     let mut rig = Box::new(NO_RIG);
-    let library = ffi::rehearse(&given.supply, given.round(), &given.calls, &mut replies, &mut rig);
+    let library =
+        ffi::rehearse(&given.supply, given.round(), &given.calls, replies.list_mut(), &mut rig);
     counts.refusal("rehearse", library.number);
 
-    let mut twin_replies = vec![rubbish; room];
-    let twin = match rehearsed(given, &mut twin_replies) {
+    let mut twin_replies = Guarded::new(&vec![rubbish; room], rubbish, 2);
+    let twin = match rehearsed(given, twin_replies.list_mut()) {
         Ok(twin) => {
             same("yatesorrel_rehearse", &library, &ffi::Told::default(), given)?;
             mirror::shown_rig(&twin)
         }
         Err(number) => {
             same("yatesorrel_rehearse", &library, &mirror::refused(number), given)?;
-            return untouched(given, &rig, &replies, &twin_replies);
+            same("yatesorrel_rehearse, replies", &replies, &twin_replies, given)?;
+            return same("yatesorrel_rehearse, rig", &*rig, &NO_RIG, given);
         }
     };
     same("yatesorrel_rehearse, replies", &replies, &twin_replies, given)?;
@@ -316,12 +327,6 @@ fn rehearsed(given: &Given, replies: &mut [Reply]) -> Result<mirror::Rig, u8> {
         *reply = mirror::reply(*twin_reply);
     }
     Ok(twin)
-}
-
-/// A refused script leaves the replies and the rig.
-fn untouched(given: &Given, rig: &ffi::Rig, replies: &[Reply], before: &[Reply]) -> Outcome {
-    same("yatesorrel_rehearse, replies", &replies, &before, given)?;
-    same("yatesorrel_rehearse, rig", rig, &NO_RIG, given)
 }
 
 /// The numbers that a supply is made of.
@@ -363,34 +368,62 @@ pub fn spoiled(random: &mut Random, counts: &mut Counts) -> Outcome {
     match random.below(6) {
         0 => rig.state.ending = random.pick(&[6, 255]),
         1 => rig.kept.ending = random.pick(&[6, 255]),
-        2 => rig.attempts = random.pick(&[1_000_001, u32::MAX]),
-        3 => rig.cuts = random.pick(&[1_000_001, u32::MAX]),
+        2 => rig.saves = random.pick(&[rig.attempts + 1, u32::MAX]),
         _ => scripts::spoil_supply(random, &mut rig.supply),
     }
     match mirror::rig_of(rig) {
         None => all_refuse(rig, &given, counts),
-        Some(twin) => {
-            pair.twin = twin;
-            pair.step(counts)?;
-            pair.alike("yatesorrel_rig_step, rig")
+        Some(twin) => pair.go_on(random, twin, counts),
+    }
+}
+
+/// Rigs of numbers that no calls lead to, but that are a rig's.
+pub fn strange(random: &mut Random, counts: &mut Counts) -> Outcome {
+    let given = Given::any(random);
+    let Some(mut pair) = Pair::begin(&given)? else { return Ok(()) };
+    let rig = &mut pair.rig;
+    for state in [&mut rig.state, &mut rig.kept] {
+        if random.percent(70) {
+            *state = numbers::state(random);
         }
+    }
+    rig.before = random.edge();
+    rig.attempts = random.pick(&[0, 7, 999_999, 1_000_000, 1_000_001, u32::MAX]);
+    rig.cuts = random.pick(&[0, 7, 999_999, 1_000_000, 1_000_001, u32::MAX]);
+    rig.saves = random.pick(&[0, 7, 999_999, u32::MAX]).min(rig.attempts);
+    match mirror::rig_of(rig) {
+        None => all_refuse(rig, &given, counts),
+        Some(twin) => {
+            counts.add("rig", "of numbers that no calls lead to");
+            pair.go_on(random, twin, counts)
+        }
+    }
+}
+
+/// What the calls of no rig are given.
+struct Spoiled<'g>(&'g Given, ffi::Rig);
+
+impl Display for Spoiled<'_> {
+    fn fmt(&self, f: &mut fmt::Formatter<'_>) -> fmt::Result {
+        write!(f, "{}\nrig: {:?}", self.0, self.1)
     }
 }
 
 fn all_refuse(rig: &mut ffi::Rig, given: &Given, counts: &mut Counts) -> Outcome {
     let before = *rig;
+    let input = &Spoiled(given, before);
     let refusal = mirror::refused(ffi::NOT_BEGUN);
     counts.refusal("rig step", ffi::NOT_BEGUN);
     let attempt = ffi::rig_step(rig, &given.prices, &given.image, &given.tape);
     let nothing = ffi::Attempt { refusal, ..ffi::Attempt::default() };
-    same("yatesorrel_rig_step, of no rig", &attempt, &nothing, given)?;
-    same("yatesorrel_rig_cut, of no rig", &ffi::rig_cut(rig), &refusal, given)?;
+    same("yatesorrel_rig_step, of no rig", &attempt, &nothing, input)?;
+    same("yatesorrel_rig_cut, of no rig", &ffi::rig_cut(rig), &refusal, input)?;
     let counted = CCounts { refusal, ..CCounts::default() };
-    same("yatesorrel_rig_counts, of no rig", &ffi::rig_counts(rig), &counted, given)?;
+    same("yatesorrel_rig_counts, of no rig", &ffi::rig_counts(rig), &counted, input)?;
     let record = KeptRecord { refusal, ..KeptRecord::default() };
-    same("yatesorrel_rig_record, of no rig", &ffi::rig_record(rig, 0), &record, given)?;
+    same("yatesorrel_rig_record, of no rig", &ffi::rig_record(rig, 0), &record, input)?;
     let mut state = NO_RIG.state;
-    same("yatesorrel_rig_kept, of no rig", &ffi::rig_kept(rig, &mut state), &refusal, given)?;
-    same("yatesorrel_rig_kept, of no rig, state", &state, &NO_RIG.state, given)?;
-    same("calls of no rig, rig", rig, &before, given)
+    same("yatesorrel_rig_kept, of no rig", &ffi::rig_kept(rig, &mut state), &refusal, input)?;
+    same("yatesorrel_rig_kept, of no rig, state", &state, &NO_RIG.state, input)?;
+    same("calls of no rig, rig", rig, &before, input)
 }

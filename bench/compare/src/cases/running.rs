@@ -34,10 +34,7 @@ pub fn run(random: &mut Random, counts: &mut Counts) -> Outcome {
         0 => image::hostile(random),
         1 => image::falling(random),
         2 => image::recording(random),
-        _ => {
-            let count = image::size(random);
-            image::lawful(random, count)
-        }
+        _ => image::any_lawful(random),
     };
     let given = Run { image, tape: numbers::tape(random), from: None };
     let mut state = State { place: 77, ..State::ZERO };

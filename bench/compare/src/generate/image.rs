@@ -122,22 +122,48 @@ impl Style {
 }
 
 /// How many slots: mostly few, sometimes the most.
-pub fn size(random: &mut Random) -> usize {
+fn size(random: &mut Random) -> usize {
     let most = random.weighted(&[(30, 8), (40, 24), (22, 64), (6, 160), (1, MOST_SLOTS as u64)]);
-    match random.below(400) {
-        0 if most == MOST_SLOTS as u64 => MOST_SLOTS,
-        _ => 1 + random.index(most as usize),
+    if most == MOST_SLOTS as u64 && random.percent(20) {
+        return MOST_SLOTS;
     }
+    1 + random.index(most as usize)
+}
+
+/// The rounds in `examples/`, as clang compiled them.
+const COMPILED: [&[u8]; 3] = [
+    include_bytes!("../../../../examples/piezometer_pair.bin"),
+    include_bytes!("../../../../examples/vnotch_weir.bin"),
+    include_bytes!("../../../../examples/eight_channel_scan.bin"),
+];
+
+/// A lawful image of any size and shape, or a compiled round.
+pub fn any_lawful(random: &mut Random) -> Vec<u8> {
+    if random.percent(2) {
+        return random.pick(&COMPILED).to_vec();
+    }
+    let count = size(random);
+    lawful(random, count)
+}
+
+/// A lawful image of any size in which idle slots are frequent, or a compiled
+/// round.
+pub fn any_idling(random: &mut Random) -> Vec<u8> {
+    if random.percent(4) {
+        return random.pick(&COMPILED).to_vec();
+    }
+    let count = size(random);
+    idling(random, count)
 }
 
 /// A lawful image of so many slots, in one of several shapes.
-pub fn lawful(random: &mut Random, count: usize) -> Vec<u8> {
+fn lawful(random: &mut Random, count: usize) -> Vec<u8> {
     let style = Style::any(random);
     shaped(random, &style, count)
 }
 
 /// A lawful image in which idle slots are frequent.
-pub fn idling(random: &mut Random, count: usize) -> Vec<u8> {
+fn idling(random: &mut Random, count: usize) -> Vec<u8> {
     let mut style = Style::any(random);
     style.weights[IDLE].0 = random.pick(&[2, 6, 20]);
     shaped(random, &style, count)
@@ -365,12 +391,11 @@ fn resize(random: &mut Random, image: &mut Vec<u8>) {
 
 /// Bytes of any kind: damaged images and noise.
 pub fn hostile(random: &mut Random) -> Vec<u8> {
-    let count = size(random);
     match random.below(10) {
         0 => (0..random.index(120)).map(|_| random.word() as u8).collect(),
-        1 => (0..count).flat_map(|_| edge_slot(random)).collect(),
+        1 => (0..size(random)).flat_map(|_| edge_slot(random)).collect(),
         _ => {
-            let mut image = lawful(random, count);
+            let mut image = any_lawful(random);
             for _ in 0..=random.below(3) {
                 damage(random, &mut image);
             }

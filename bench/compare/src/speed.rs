@@ -119,6 +119,7 @@ pub fn table(repeats: u64) {
         stepping(endless(ADD, slots), repeats);
     }
     for slots in SIZES {
+        scripts(endless(SAVE_BYTES, slots), repeats);
         rigs_on_mains(endless(SAVE_BYTES, slots), repeats);
         rigs_on_a_capacitor(endless(SAVE_BYTES, slots), repeats);
     }
@@ -165,7 +166,7 @@ fn placing(image: Vec<u8>, repeats: u64) {
 }
 
 fn running(image: Vec<u8>, repeats: u64) {
-    let what = "step, of a run at one go, ns";
+    let what = "machine step of a run, ns";
     let row = Row { what, slots: slots_of(&image), unit: NANOSECONDS_A_STEP };
     let mut state = ffi::State::ZERO;
     row.print(
@@ -182,7 +183,7 @@ fn running(image: Vec<u8>, repeats: u64) {
 }
 
 fn stepping(image: Vec<u8>, repeats: u64) {
-    let what = "step, each by a call, ns";
+    let what = "machine step by a call, ns";
     let row = Row { what, slots: slots_of(&image), unit: NANOSECONDS_A_STEP };
     row.print(
         repeats,
@@ -202,10 +203,33 @@ fn stepping(image: Vec<u8>, repeats: u64) {
     );
 }
 
+fn scripts(image: Vec<u8>, repeats: u64) {
+    let what = "rig step of a script, on the mains, ns";
+    let row = Row { what, slots: slots_of(&image), unit: NANOSECONDS_A_STEP };
+    let calls = vec![ffi::Call::default(); STEPS as usize];
+    let mut replies = vec![ffi::Reply::default(); STEPS as usize];
+    let twin_calls = vec![rig::Call::Step; STEPS as usize];
+    let mut twin_replies = vec![rig::Reply::Count(0); STEPS as usize];
+    let mut supply = ffi::Supply::default();
+    ffi::mains(&mut supply);
+    let mut rig = Box::new(crate::cases::NO_RIG);
+    row.print(
+        repeats,
+        &mut || {
+            let round = ffi::Round { prices: &PRICES, image: black_box(&image), tape: &[] };
+            black_box(ffi::rehearse(&supply, round, &calls, &mut replies, &mut rig));
+        },
+        &mut || {
+            let round = rig::Round { model: &OperandModel, image: black_box(&image), tape: &[] };
+            black_box(rig::rehearse(Mains::default(), &round, &twin_calls, &mut twin_replies));
+        },
+    );
+}
+
 fn rigs_on_mains(image: Vec<u8>, repeats: u64) {
     let mut supply = ffi::Supply::default();
     ffi::mains(&mut supply);
-    rigs("rig step on the mains, ns", image, &supply, Mains::default(), repeats);
+    rigs("rig step by a call, on the mains, ns", image, &supply, Mains::default(), repeats);
 }
 
 fn rigs_on_a_capacitor(image: Vec<u8>, repeats: u64) {
@@ -214,7 +238,7 @@ fn rigs_on_a_capacitor(image: Vec<u8>, repeats: u64) {
     ffi::capacitor(RATINGS, &mut supply);
     let [microfarads, top, bottom, unit] = RATINGS.map(u64::from);
     if let Ok(capacitor) = Capacitor::new(microfarads, top, bottom, unit) {
-        rigs("rig step on a capacitor, ns", image, &supply, capacitor, repeats);
+        rigs("rig step by a call, on a capacitor, ns", image, &supply, capacitor, repeats);
     }
 }
 

@@ -159,20 +159,18 @@ fn ending_of(number: u8) -> Option<Option<Ending>> {
 
 /// The state that some numbers are, or none.
 pub fn state_of(state: &ffi::State) -> Option<machine::State> {
-    let records: Vec<machine::Record> = state
-        .log
-        .get(..state.logged)?
-        .iter()
-        .map(|&ffi::Record { sensor, value }| machine::Record { sensor, value })
-        .collect();
     Some(machine::State {
         slot: state.slot.into(),
         registers: state.registers,
         memory: state.memory,
         place: state.place,
-        log: Log::of(&records)?,
+        log: Log::of(state.log.map(twin_record), state.logged),
         ending: ending_of(state.ending)?,
     })
+}
+
+fn twin_record(ffi::Record { sensor, value }: ffi::Record) -> machine::Record {
+    machine::Record { sensor, value }
 }
 
 fn record(machine::Record { sensor, value }: machine::Record) -> ffi::Record {
@@ -192,7 +190,7 @@ pub fn shown(state: &machine::State) -> ffi::State {
         memory: state.memory,
         place: state.place,
         log,
-        logged: state.log.records().len(),
+        logged: state.log.count(),
     }
 }
 

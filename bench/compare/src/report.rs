@@ -78,6 +78,7 @@ const WANTED: &[(&str, &str)] = &[
     ("rig step", "refused 21"),
     ("rig step", "refused 22"),
     ("rig step", "refused 31"),
+    ("rig step", "refused 32"),
     ("rig cut", "accepted"),
     ("rig cut", "refused 21"),
     ("rig cut", "refused 23"),

@@ -24,16 +24,17 @@ pub struct Log {
 }
 
 impl Log {
-    /// A log of some records, or none where they are too many.
-    pub fn of(records: &[Record]) -> Option<Log> {
-        let mut log = Log::default();
-        log.records.get_mut(..records.len())?.copy_from_slice(records);
-        log.count = records.len();
-        Some(log)
+    /// A log with a count of its own: above 64 it is as full as at 64.
+    pub fn of(records: [Record; MOST_RECORDS], count: usize) -> Log {
+        Log { records, count }
     }
 
     pub fn records(&self) -> &[Record] {
-        &self.records[..self.count]
+        &self.records[..self.count.min(MOST_RECORDS)]
+    }
+
+    pub fn count(&self) -> usize {
+        self.count
     }
 
     /// Appends a record, or gives it back where the log is full.
@@ -58,13 +59,14 @@ impl Clone for Log {
 
     fn clone_from(&mut self, source: &Log) {
         self.count = source.count;
-        self.records[..source.count].copy_from_slice(source.records());
+        let records = source.records();
+        self.records[..records.len()].copy_from_slice(records);
     }
 }
 
 impl PartialEq for Log {
     fn eq(&self, other: &Log) -> bool {
-        self.records() == other.records()
+        self.count == other.count && self.records() == other.records()
     }
 }
 
@@ -215,27 +217,19 @@ impl State {
         match instruction.kind {
             Kind::Arithmetic(width, operand, operation) => {
                 let b = if operation == Arithmetic::Neg { 0 } else { second(operand) };
-                self.registers[usize::from(instruction.dst)] = match width {
-                    Width::Full => apply_full(operation, dst, b),
-                    Width::Half => apply_half(operation, dst as u32, b as u32).into(),
-                };
+                self.registers[usize::from(instruction.dst)] = apply(width, operation, dst, b);
                 (dst, b, Ok(next))
             }
             Kind::Branch(width, operand, condition) => {
                 let b = second(operand);
-                let holds = match width {
-                    Width::Full => holds_full(condition, dst, b),
-                    Width::Half => holds_half(condition, dst as u32, b as u32),
-                };
-                (dst, b, Ok(if holds { target } else { next }))
+                (dst, b, Ok(if holds(width, condition, dst, b) { target } else { next }))
             }
             Kind::Jump => (0, 0, Ok(target)),
             Kind::Exit => (0, 0, Err(Ending::Exit)),
             Kind::Load(size) => {
                 let loaded = load(&self.memory, at_offset(src), size);
-                let loaded =
-                    loaded.map(|value| self.registers[usize::from(instruction.dst)] = value);
-                (0, 0, loaded.map(|()| next).ok_or(MEMORY))
+                self.registers[usize::from(instruction.dst)] = loaded.unwrap_or(dst);
+                (0, 0, loaded.map(|_| next).ok_or(MEMORY))
             }
             Kind::StoreImm(size) => self.store(at_offset(dst), size, imm, next),
             Kind::StoreRegister(size) => self.store(at_offset(dst), size, src, next),
@@ -305,6 +299,22 @@ fn store(memory: &mut [u8; MEMORY_BYTES], address: u64, size: Size, value: u64) 
         Size::Eight => *bytes.first_chunk_mut()? = value.to_le_bytes(),
     }
     Some(())
+}
+
+#[inline]
+fn apply(width: Width, operation: Arithmetic, a: u64, b: u64) -> u64 {
+    match width {
+        Width::Full => apply_full(operation, a, b),
+        Width::Half => apply_half(operation, a as u32, b as u32).into(),
+    }
+}
+
+#[inline]
+fn holds(width: Width, condition: Condition, a: u64, b: u64) -> bool {
+    match width {
+        Width::Full => holds_full(condition, a, b),
+        Width::Half => holds_half(condition, a as u32, b as u32),
+    }
 }
 
 /// Arithmetic and comparisons at one width.

@@ -86,8 +86,7 @@ impl<S: Supply> Rig<S> {
             return Err(Refusal::Attempts);
         }
         self.attempts += 1;
-        let kept = self.kept.log.records().len();
-        let pending = self.state.log.records().len().saturating_sub(kept);
+        let pending = self.state.log.count().saturating_sub(self.kept.log.count());
         let effect = self.state.step(round.image, round.tape);
         let amount = draws(round.model, &effect, pending as u64);
         if !self.supply.draw(amount) {

@@ -3,7 +3,7 @@
 use std::fmt::{self, Display};
 
 use crate::ffi::{self, Prices, Worth};
-use crate::generate::{image, numbers, scripts};
+use crate::generate::{hostile, lawful, numbers, supplies};
 use crate::guarded::Guarded;
 use crate::mirror;
 use crate::random::Random;
@@ -39,7 +39,7 @@ impl Judged {
         let prices = numbers::prices(random);
         let price = match random.below(2) {
             0 => least(&image, &prices),
-            _ => least(&image::turned(&image), &prices),
+            _ => least(&lawful::turned(&image), &prices),
         };
         let budget = numbers::budget(random, price);
         let before = 1 + random.index(9);
@@ -60,9 +60,9 @@ fn least(image: &[u8], prices: &Prices) -> u64 {
 
 fn any_image(random: &mut Random, hostile: u64) -> Vec<u8> {
     if random.percent(hostile) {
-        return image::hostile(random);
+        return hostile::hostile(random);
     }
-    image::any_lawful(random)
+    lawful::any_lawful(random)
 }
 
 pub fn lawful(random: &mut Random, counts: &mut Counts) -> Outcome {
@@ -86,8 +86,8 @@ pub fn certify(random: &mut Random, counts: &mut Counts) -> Outcome {
 
 pub fn place(random: &mut Random, counts: &mut Counts) -> Outcome {
     let image = match random.below(12) {
-        0 => image::hostile(random),
-        _ => image::any_idling(random),
+        0 => hostile::hostile(random),
+        _ => lawful::any_idling(random),
     };
     let idle = idle_slots(&image);
     if idle > MANY_IDLE && !random.percent(10) {
@@ -139,10 +139,10 @@ pub fn headroom(random: &mut Random, counts: &mut Counts) -> Outcome {
 
 fn capacity(random: &mut Random, given: &Judged, budget: u64, counts: &mut Counts) -> Outcome {
     let voltages = match random.below(4) {
-        0 => scripts::voltages(random),
-        1 => scripts::voltages_of_the_largest(random, budget),
+        0 => supplies::voltages(random),
+        1 => supplies::voltages_of_the_largest(random, budget),
         2 => [2, 1, 1_000_000],
-        _ => scripts::voltages_for(random, 400),
+        _ => supplies::voltages_for(random, 400),
     };
     let (mut working, mut twin_working) = (given.working.clone(), given.working.clone());
     let Judged { image, prices, .. } = given;

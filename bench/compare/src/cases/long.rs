@@ -1,6 +1,8 @@
 //! Long scripts, up to the last attempt and the last cut.
 
-use crate::cases::rigs::{Given, Pair, script};
+use crate::cases::given::Given;
+use crate::cases::pair::Pair;
+use crate::cases::rehearsing::script;
 use crate::ffi::{Call, FLAT_PRICES, Prices};
 use crate::mirror;
 use crate::report::{Counts, Outcome};

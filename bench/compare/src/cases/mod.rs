@@ -1,11 +1,15 @@
 //! One input of a number: what is asked of both sides, and what must be alike.
 
+mod given;
 mod judging;
 mod long;
+mod making;
+mod pair;
+mod rehearsing;
 mod rigs;
 mod running;
 
-pub use rigs::NO_RIG;
+pub use pair::NO_RIG;
 
 use crate::random::Random;
 use crate::report::{Counts, Outcome};
@@ -24,8 +28,8 @@ pub fn input(seed: u64, index: u64, counts: &mut Counts) -> Outcome {
         (14, running::run),
         (14, running::single),
         (14, rigs::steps),
-        (4, rigs::rehearse),
-        (2, rigs::supplies),
+        (4, rehearsing::rehearse),
+        (2, making::capacitors),
         (2, rigs::spoiled),
         (3, rigs::strange),
     ]);

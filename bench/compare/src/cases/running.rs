@@ -6,7 +6,7 @@ use twin::image::SLOT_BYTES;
 use twin::machine;
 
 use crate::ffi::{self, State};
-use crate::generate::{image, numbers};
+use crate::generate::{hostile, lawful, numbers};
 use crate::mirror;
 use crate::random::Random;
 use crate::report::{Counts, Hex, Outcome, same};
@@ -31,10 +31,10 @@ impl Display for Run {
 /// A run from the beginning: every step of it, and then at one go.
 pub fn run(random: &mut Random, counts: &mut Counts) -> Outcome {
     let image = match random.below(10) {
-        0 => image::hostile(random),
-        1 => image::falling(random),
-        2 => image::recording(random),
-        _ => image::any_lawful(random),
+        0 => hostile::hostile(random),
+        1 => hostile::falling(random),
+        2 => lawful::recording(random),
+        _ => lawful::any_lawful(random),
     };
     let given = Run { image, tape: numbers::tape(random), from: None };
     let mut state = State { place: 77, ..State::ZERO };
@@ -94,8 +94,8 @@ fn count(end: &machine::State, image: &[u8], counts: &mut Counts) {
 /// Some steps from a state with any numbers.
 pub fn single(random: &mut Random, counts: &mut Counts) -> Outcome {
     let image = match random.below(10) {
-        0 => image::hostile(random),
-        _ => image::single(random),
+        0 => hostile::hostile(random),
+        _ => hostile::single(random),
     };
     let mut state = numbers::state(random);
     let spoiled = random.percent(3);

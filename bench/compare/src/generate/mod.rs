@@ -1,5 +1,8 @@
 //! Inputs: images, prices, budgets, working lists, supplies and scripts.
 
-pub mod image;
+mod fields;
+pub mod hostile;
+pub mod lawful;
 pub mod numbers;
 pub mod scripts;
+pub mod supplies;

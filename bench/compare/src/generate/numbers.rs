@@ -81,7 +81,7 @@ pub fn state(random: &mut Random) -> State {
         *byte = random.word() as u8;
     }
     state.place = random.pick(&[0, 0, 0, 1, 3, 69, usize::MAX]);
-    state.logged = random.pick(&[0, 0, 1, 2, 63, 64]);
+    state.logged = random.pick(&[0, 0, 1, 2, 63, 64, 65, usize::MAX]);
     for record in &mut state.log[..MOST_RECORDS] {
         *record = Record { sensor: random.word() as u8, value: random.edge() };
     }

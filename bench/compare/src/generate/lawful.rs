@@ -132,13 +132,17 @@ fn shaped(random: &mut Random, style: &Style, count: usize) -> Vec<u8> {
     slots.into_iter().flat_map(Fields::bytes).collect()
 }
 
-/// Slots that may jump anywhere among themselves.
+/// Slots that may jump anywhere among themselves; sometimes the first jumps over
+/// some, which may then not be reachable.
 fn open(random: &mut Random, style: &Style, count: usize) -> Vec<Fields> {
     let mut slots = vec![Fields::exit(); count];
     let last = count - 1;
     fill(random, style, &mut slots, 0..last, 0..count);
     if random.percent(15) && count > 1 {
         slots[last] = Fields::jump(-1 - random.index(count) as i16);
+    }
+    if random.percent(10) && count > 1 {
+        slots[0] = Fields::jump(random.index(last) as i16);
     }
     slots
 }

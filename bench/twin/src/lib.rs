@@ -1,7 +1,7 @@
 //! A second certifier, placer of saves, machine and rig for reading rounds.
 //!
-//! It was written from the pages in `docs/reference` alone, by hand and without
-//! proofs, to be held against the proved library: both must answer every input
+//! It was written from the pages in `docs`, by hand and without proofs, to be held
+//! against the proved library, whose sources were not read: both must answer every input
 //! alike, and its speed is the measure of the library's.
 
 #![forbid(unsafe_code)]

@@ -9,9 +9,9 @@
 use std::ptr;
 use std::time::Duration;
 
-pub const NOT_BEGUN: u8 = 31;
-pub const NO_PRICES: u8 = 32;
-pub const NO_CALL: u8 = 33;
+pub const NOT_BEGUN: u8 = 101;
+pub const NO_PRICES: u8 = 102;
+pub const NO_CALL: u8 = 103;
 
 pub const OPERAND_PRICES: u32 = 0;
 pub const FLAT_PRICES: u32 = 1;

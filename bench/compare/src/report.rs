@@ -54,7 +54,7 @@ const WANTED: &[(&str, &str)] = &[
     ("certify", "refused 9"),
     ("certify", "refused 10"),
     ("certify", "refused 12"),
-    ("certify", "refused 32"),
+    ("certify", "refused 102"),
     ("place", "accepted, saves placed"),
     ("place", "accepted, idle slots left"),
     ("place", "refused 11, carrying 9"),
@@ -77,8 +77,8 @@ const WANTED: &[(&str, &str)] = &[
     ("rig step", "ended"),
     ("rig step", "refused 21"),
     ("rig step", "refused 22"),
-    ("rig step", "refused 31"),
-    ("rig step", "refused 32"),
+    ("rig step", "refused 101"),
+    ("rig step", "refused 102"),
     ("rig cut", "accepted"),
     ("rig cut", "refused 21"),
     ("rig cut", "refused 23"),
@@ -87,9 +87,9 @@ const WANTED: &[(&str, &str)] = &[
     ("rig", "ended, after falling back"),
     ("rig", "ended, after cuts alone"),
     ("rehearse", "accepted"),
-    ("rehearse", "refused 31"),
-    ("rehearse", "refused 32"),
-    ("rehearse", "refused 33"),
+    ("rehearse", "refused 101"),
+    ("rehearse", "refused 102"),
+    ("rehearse", "refused 103"),
 ];
 
 fn refusal_name(number: u8) -> &'static str {
@@ -111,9 +111,9 @@ fn refusal_name(number: u8) -> &'static str {
         (22, "refused 22"),
         (23, "refused 23"),
         (24, "refused 24"),
-        (31, "refused 31"),
-        (32, "refused 32"),
-        (33, "refused 33"),
+        (101, "refused 101"),
+        (102, "refused 102"),
+        (103, "refused 103"),
     ];
     let named = NAMES.iter().find(|(of, _)| *of == number);
     named.map_or("accepted", |(_, name)| name)

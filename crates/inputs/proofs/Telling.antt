@@ -1,11 +1,13 @@
 -- Answers about words, and the errors that they hand on.
 use Rattle.std.proofs.Common.{◌≡◌, ℕ, ◌≤◌, ◌-◌, List, [], ◌∷◌, length, get_or, take, drop, Result, Ok, Err, Bor, ap, sym, arith}
 use Rattle.std.proofs.lemmas.List.{take_rest}
-use Rattle.inputs.specs.declared.command.CommandError.{CommandError}
-use Rattle.inputs.specs.declared.command.CommandError.TheVariants.{NoSuchCommand, Misused, OutOfMemory}
-use Rattle.inputs.specs.declared.command.Verb.{Verb}
-use Rattle.inputs.specs.declared.command.Verb.TheVariants as verb
-use Rattle.inputs.specs.Command.{Text, Words, Chosen, headroom, Told, texts, read_then, prices_in, supply_among, supply_if, headroom_of, chosen_with, chosen_from}
+use Rattle.inputs.specs.declared.misuse.CommandError.{CommandError}
+use Rattle.inputs.specs.declared.misuse.CommandError.TheVariants.{NoSuchCommand, Misused, OutOfMemory}
+use Rattle.inputs.specs.declared.misuse.Verb.{Verb}
+use Rattle.inputs.specs.declared.misuse.Verb.TheVariants as verb
+use Rattle.inputs.specs.Command.{headroom, supply_among, supply_if, headroom_of}
+use Rattle.inputs.specs.Misuse.{Told, read_then}
+use Rattle.inputs.specs.Options.{Text, Words, Chosen, texts, prices_in, chosen_with, chosen_from}
 
 -- an error that one answer hands on to another
 pub told_on : {A B C D : Type 0} (view : A → B) (other : C → D) (r : Result B CommandError) (s : Result D CommandError) (e : CommandError) → ((d : CommandError) → r ≡ Err d → s ≡ Err d) → Told view r (Err e) → Told other s (Err e)

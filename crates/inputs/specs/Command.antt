@@ -1,19 +1,7 @@
 -- The command line: the words after the program's name, and what they ask for. Each function below reads the words of one command as its usage has them.
 --
--- Text, Words                 the bytes of a word; the words of a command line
 -- Rehearsing                  the words of a rehearsal, its supply, its cuts in order and how many steps are asked
 -- Asked                       what a command line asks for
--- misused v how               the error that the command v was misused in this way
--- read_then r f               what f makes of the value of r; its error stays
--- or_misused v how o          the value of o, or this error
--- number_in v word            the number below 2^64 that a word writes
--- supply_in v word            the supply that a word names
--- prices_in v words           no words, or --prices FILE: the file, if there is one
--- Chosen                      the options of a rehearsal so far: a file of prices, the cuts in order, and how many steps are asked
--- first v given value         a value for what has none so far
--- chosen_with v c opt value   the options c with one more: --prices FILE once, --cut N, or --steps N once
--- chosen_from v c words       the options c with those that the words make, two by two
--- chosen_in v words           the options that the words make
 -- most_steps                  the most steps that are asked; more are cut to it, and it is asked where no number is given
 -- rehearsing_with, rehearsal_in   a rehearsal of ROUND TAPE SUPPLY and its options
 -- supply_among, supply_if     the word of a supply among the words behind headroom's round, and its supply
@@ -21,31 +9,21 @@
 -- alone v asked words         a command that takes no words
 -- named name words            the command of this name
 -- command_of words            what a command line asks for, or what is wrong with it
--- texts, chosen, rehearsing, asked   words, options, a rehearsal and a command as texts, lists and numbers
--- Told view expected r        r is what is expected, seen by view, unless memory ran out
+-- rehearsing, asked           a rehearsal and a command as texts, lists and numbers
 -- Rehearses words             the words ask for a rehearsal
-use Rattle.std.specs.Prelude.{◌≡◌, ℕ, ◌^◌, List, [], ◌∷◌, ◌++◌, map, codes, bytes_eq, Option, Some, None, unwrap_or, min, Result, Ok, Err, ⊤, ◌⊎◌, if◌then◌else◌}
-use Rattle.std.specs.Borrow.{Bor}
+use Rattle.std.specs.Prelude.{◌≡◌, ℕ, List, [], ◌∷◌, codes, bytes_eq, Option, Some, None, unwrap_or, min, Result, Ok, Err, ◌⊎◌, if◌then◌else◌}
 use Rattle.std.specs.Option.{option_copied}
 use Rattle.inputs.specs.declared.command.Command.{Command}
 use Rattle.inputs.specs.declared.command.Command.TheVariants as command
-use Rattle.inputs.specs.declared.command.CommandError.{CommandError}
-use Rattle.inputs.specs.declared.command.CommandError.TheVariants.{NoSuchCommand, Misused, OutOfMemory}
-use Rattle.inputs.specs.declared.command.Misuse.{Misuse}
-use Rattle.inputs.specs.declared.command.Misuse.TheVariants as misuse
-use Rattle.inputs.specs.declared.command.Options.{Options}
 use Rattle.inputs.specs.declared.command.Rehearsal.{Rehearsal}
-use Rattle.inputs.specs.declared.command.Verb.{Verb}
-use Rattle.inputs.specs.declared.command.Verb.TheVariants as verb
+use Rattle.inputs.specs.declared.misuse.CommandError.{CommandError}
+use Rattle.inputs.specs.declared.misuse.CommandError.TheVariants.{NoSuchCommand}
+use Rattle.inputs.specs.declared.misuse.Misuse.TheVariants as misuse
+use Rattle.inputs.specs.declared.misuse.Verb.{Verb}
+use Rattle.inputs.specs.declared.misuse.Verb.TheVariants as verb
 use Rattle.inputs.specs.declared.supply.SupplyWord.{SupplyWord}
-use Rattle.inputs.specs.Number.{number}
-use Rattle.inputs.specs.Supply.{supply_of}
-
-abbrev pub Text : Type 0
-Text = List ℕ
-
-abbrev pub Words : Type 0
-Words = List Text
+use Rattle.inputs.specs.Misuse.{misused, read_then}
+use Rattle.inputs.specs.Options.{Text, Words, Chosen, number_in, supply_in, prices_in, chosen_in}
 
 pub record Rehearsing : Type 0 where
   pub round : Text
@@ -66,54 +44,6 @@ pub data Asked : Type 0 where
   help : Asked
   version : Asked
 
--- ---- numbers, supplies and options
-
-abbrev pub misused : {A : Type 0} → Verb → Misuse → Result A CommandError
-misused v how = Err (Misused v how)
-
-abbrev pub read_then : {A B : Type 0} → Result A CommandError → (A → Result B CommandError) → Result B CommandError
-read_then (Ok x) f = f x
-read_then (Err e) f = Err e
-
-abbrev pub or_misused : {A : Type 0} → Verb → Misuse → Option A → Result A CommandError
-or_misused v how (Some x) = Ok x
-or_misused v how None = misused v how
-
-abbrev pub number_in : Verb → Text → Result ℕ CommandError
-number_in v word = or_misused v misuse.Number (number 10 (2 ^ 64) word)
-
-abbrev pub supply_in : Verb → Text → Result SupplyWord CommandError
-supply_in v word = or_misused v misuse.Supply (supply_of word)
-
-abbrev pub prices_in : Verb → Words → Result (Option Text) CommandError
-prices_in v [] = Ok None
-prices_in v (option ∷ file ∷ []) = if bytes_eq option (codes "--prices") then Ok (Some file) else misused v misuse.Option
-prices_in v _ = misused v misuse.Words
-
-pub record Chosen : Type 0 where
-  pub prices : Option Text
-  pub cuts : List ℕ
-  pub steps : Option ℕ
-
-abbrev pub first : {A : Type 0} → Verb → Option A → A → Result A CommandError
-first v None value = Ok value
-first v (Some given) value = misused v misuse.Repeated
-
-abbrev pub chosen_with : Verb → Chosen → Text → Text → Result Chosen CommandError
-chosen_with v c option value =
-    if bytes_eq option (codes "--prices") then read_then (first v c.prices value) (λ file. Ok (record c { prices = Some file }))
-    else if bytes_eq option (codes "--cut") then read_then (number_in v value) (λ cut. Ok (record c { cuts = c.cuts ++ cut ∷ [] }))
-    else if bytes_eq option (codes "--steps") then read_then (number_in v value) (λ steps. read_then (first v c.steps steps) (λ steps. Ok (record c { steps = Some steps })))
-    else misused v misuse.Option
-
-abbrev pub chosen_from : Verb → Chosen → Words → Result Chosen CommandError
-chosen_from v c [] = Ok c
-chosen_from v c (option ∷ []) = misused v misuse.Words
-chosen_from v c (option ∷ value ∷ more) = read_then (chosen_with v c option value) (λ next. chosen_from v next more)
-
-abbrev pub chosen_in : Verb → Words → Result Chosen CommandError
-chosen_in v words = chosen_from v (record { prices = None; cuts = []; steps = None }) words
-
 abbrev pub most_steps : ℕ
 most_steps = 1_000_000
 
@@ -126,8 +56,6 @@ rehearsing_with round tape supply c = record {
   cuts = c.cuts;
   steps = min (unwrap_or c.steps most_steps) most_steps;
 }
-
--- ---- the commands
 
 -- list ROUND [--prices FILE]
 abbrev pub list_of : Words → Result Asked CommandError
@@ -199,14 +127,6 @@ abbrev pub command_of : Words → Result Asked CommandError
 command_of [] = Ok guide
 command_of (name ∷ rest) = named name rest
 
--- ---- what is answered, as texts
-
-abbrev pub texts : List (Bor (List ℕ)) → Words
-texts words = map (λ word. word.now) words
-
-abbrev pub chosen : Options → Chosen
-chosen o = record { prices = option_copied o.prices; cuts = o.cuts.items; steps = o.steps }
-
 abbrev pub rehearsing : Rehearsal → Rehearsing
 rehearsing r = record {
   round = r.round.now;
@@ -227,12 +147,6 @@ asked (command.Run r) = run (rehearsing r)
 asked (command.Report r out) = report (rehearsing r) out.now
 asked command.Help = help
 asked command.Version = version
-
-abbrev pub Told : {A B : Type 0} → (A → B) → Result B CommandError → Result A CommandError → Type 0
-Told view expected (Ok x) = expected ≡ Ok (view x)
-Told view expected (Err (Misused v how)) = expected ≡ Err (Misused v how)
-Told view expected (Err NoSuchCommand) = expected ≡ Err NoSuchCommand
-Told view expected (Err OutOfMemory) = ⊤
 
 abbrev pub Rehearses : Words → Type 0
 Rehearses [] = ⊥

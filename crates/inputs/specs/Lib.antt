@@ -1,5 +1,7 @@
 pub mod Command
+pub mod Misuse
 pub mod Number
+pub mod Options
 pub mod Prices
 pub mod Said
 pub mod Supply

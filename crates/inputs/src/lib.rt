@@ -3,7 +3,9 @@
 #![tactic(auto)]
 
 pub mod command;
+pub mod misuse;
 mod number;
+mod options;
 pub mod prices;
 mod said;
 pub mod supply;

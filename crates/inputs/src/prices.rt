@@ -102,6 +102,7 @@ fn entry_of(line: &str) -> Option<Entry>
 }
 
 // The prices read so far.
+// Stays: the flat model takes its 257 prices as one array.
 #[derive(Drop)]
 struct Sheet {
     prices: [Option<u16>; COUNT],

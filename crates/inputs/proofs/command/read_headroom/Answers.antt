@@ -1,7 +1,8 @@
 use Rattle.std.proofs.Common.{◌≡◌, ℕ, ◌-◌, List, [], Bor, Err, get_or, length, take, drop, ap, sym, ◌∙◌}
 use Rattle.std.proofs.lemmas.Result.{err_from_is_err_and}
-use Rattle.inputs.specs.declared.command.Verb.TheVariants as verb
-use Rattle.inputs.specs.Command.{asked, texts, supply_among, supply_if, headroom_of}
+use Rattle.inputs.specs.declared.misuse.Verb.TheVariants as verb
+use Rattle.inputs.specs.Command.{asked, supply_among, supply_if, headroom_of}
+use Rattle.inputs.specs.Options.{texts}
 use Rattle.inputs.proofs.Telling.{texts_first, told_err, headroom_failed}
 use Rattle.inputs.proofs.command.read_headroom.Goals as goal
 

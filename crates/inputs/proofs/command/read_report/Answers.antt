@@ -1,7 +1,9 @@
 use Rattle.std.proofs.Common.{ℕ, ◌-◌, List, [], Bor, Ok, get_or, length, take, drop, ap, ◌∙◌}
 use Rattle.std.proofs.lemmas.Result.{err_from_is_err_and}
-use Rattle.inputs.specs.declared.command.Verb.TheVariants as verb
-use Rattle.inputs.specs.Command.{report, asked, texts, read_then, rehearsing, rehearsal_in, report_of}
+use Rattle.inputs.specs.declared.misuse.Verb.TheVariants as verb
+use Rattle.inputs.specs.Command.{report, asked, rehearsing, rehearsal_in, report_of}
+use Rattle.inputs.specs.Misuse.{read_then}
+use Rattle.inputs.specs.Options.{texts}
 use Rattle.inputs.proofs.Telling.{texts_four, told_on}
 use Rattle.inputs.proofs.command.read_report.Goals as goal
 

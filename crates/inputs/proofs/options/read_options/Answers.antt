@@ -1,7 +1,7 @@
 use Rattle.std.proofs.Common.{ℕ, ◌-◌, List, [], Bor, get_or, length, take, drop, ap, ◌∙◌}
-use Rattle.inputs.specs.Command.{chosen, chosen_from, texts}
+use Rattle.inputs.specs.Options.{chosen, chosen_from, texts}
 use Rattle.inputs.proofs.Telling.{texts_two, chosen_on}
-use Rattle.inputs.proofs.command.read_options.Goals as goal
+use Rattle.inputs.proofs.options.read_options.Goals as goal
 
 pub loop-rest-preserved : goal.loop-rest-preserved
 loop-rest-preserved c =

@@ -1,6 +1,5 @@
 // The command `certify`: does every stretch of a round fit one full charge?
-use crate::list::Report;
-use crate::slots::Line;
+use crate::refusal::{Report, print_advice, print_refusal};
 use crate::verdict::Verdict;
 use crate::walk::Certified;
 use certifier::certify::Certifier;
@@ -21,23 +20,13 @@ fn praise(rt: &HostRuntime, certified: Certified, budget: u64) -> io::Result<()>
 }
 
 fn explain(rt: &HostRuntime, certified: Certified, refusal: Refusal) -> io::Result<()> {
+    let Refusal::OverBudget { slot, .. } = refusal else {
+        return print_refusal(rt, certified.image, refusal);
+    };
     println!(rt; "{}", Report(refusal))?;
-    match refusal {
-        Refusal::OverBudget { slot, .. } => {
-            println!(rt; "its dearest walk:")?;
-            certified.print_walk(rt, slot)?;
-            println!(rt; "what helps: a save on the way, or a larger budget")
-        }
-        Refusal::Loop { slot } => {
-            let line = Line {
-                image: certified.image,
-                slot,
-            };
-            println!(rt; "{line}")?;
-            println!(rt; "what helps: a save inside the loop")
-        }
-        _ => Ok(()),
-    }
+    println!(rt; "its dearest walk:")?;
+    certified.print_walk(rt, slot)?;
+    print_advice(rt, refusal)
 }
 
 pub fn certify_round(
@@ -49,6 +38,7 @@ pub fn certify_round(
     let verdict = by.certify(image, &mut worths);
     let certified = Certified {
         image,
+        prices: by.model,
         nodes: &walk_table(image, by.model),
         worths: &worths,
     };

@@ -1,22 +1,22 @@
 // The guided task: one real round from its bytes to a verdict.
 use crate::certify::certify_round;
-use crate::list::{print_lawful, print_roles};
-use crate::place::place_saves;
-use crate::rehearsal::script;
-use crate::run::run;
-use crate::slots::{Line, print_slots};
-use crate::supplies::Source;
+use crate::list::print_lawful;
+use crate::margin::tell_headroom;
+use crate::place::{place_saves, print_placement};
+use crate::refusal::print_refusal;
+use crate::rehearsal::{rehearse_round, script};
+use crate::slots::{print_roles, print_slots};
+use crate::source::source_of;
 use certifier::certify::Certifier;
+use claims::call::Call;
 use claims::round::Round;
+use inputs::supply::SupplyWord;
 use isa::lawful::lawful;
 use pricing::prices::Prices;
 use rounds::piezometer_pair::PIEZOMETER_PAIR;
 use std::io;
 
-// The slot whose jump is damaged, the byte with its distance, and what the
-// byte becomes.
-const DAMAGED_SLOT: u16 = 7;
-
+// The byte of the image with a jump's distance, and what it becomes.
 const DAMAGED_BYTE: usize = 58;
 
 const DAMAGE: u8 = 0x81;
@@ -29,7 +29,7 @@ fn show_round(rt: &HostRuntime) -> io::Result<()> {
     print_slots(rt, PIEZOMETER_PAIR)?;
     println!(rt)?;
     println!(rt; "Is it lawful? Every opcode, register, field and helper, and every way out:")?;
-    print_lawful(rt, lawful(PIEZOMETER_PAIR))?;
+    print_lawful(rt, PIEZOMETER_PAIR, lawful(PIEZOMETER_PAIR))?;
     println!(rt)?;
     println!(rt; "Where it keeps its state, and where the placer may make it do so:")?;
     print_roles(rt, PIEZOMETER_PAIR)
@@ -39,12 +39,7 @@ fn show_damage(rt: &HostRuntime) -> io::Result<()> {
     let mut damaged = *PIEZOMETER_PAIR;
     damaged[DAMAGED_BYTE] = DAMAGE;
     println!(rt; "One damaged byte, {DAMAGED_BYTE} of the image, sends a jump astray:")?;
-    let line = Line {
-        image: &damaged,
-        slot: DAMAGED_SLOT,
-    };
-    println!(rt; "{line}")?;
-    print_lawful(rt, lawful(&damaged))
+    print_lawful(rt, &damaged, lawful(&damaged))
 }
 
 // Readings of a day on which the head across the core is low.
@@ -58,15 +53,27 @@ fn taped<'a>(prices: &'a Prices, image: &'a [u8]) -> Round<'a, Prices> {
     }
 }
 
+fn run_on(
+    rt: &HostRuntime,
+    supply: SupplyWord,
+    round: &Round<Prices>,
+    calls: &[Call],
+) -> io::Result<()> {
+    match source_of(supply) {
+        Ok(source) => rehearse_round(rt, source, round, calls),
+        Err(refusal) => print_refusal(rt, round.image, refusal),
+    }
+}
+
 // Steps enough for twice the round.
 const STEPS: u64 = 200;
 
-fn show_run(rt: &HostRuntime, prices: &Prices) -> anyhow::Result<()> {
+fn show_run(rt: &HostRuntime, prices: &Prices) -> io::Result<()> {
     let calls = script(rt.alloc(), STEPS, &[])?;
     println!(rt; "Its run on the mains, over the readings 812 815 813 590 588 604:")?;
-    run(
+    run_on(
         rt,
-        Source::Mains,
+        SupplyWord::Mains,
         &taped(prices, PIEZOMETER_PAIR),
         calls.as_slice(),
     )?;
@@ -99,7 +106,8 @@ fn show_placing(rt: &HostRuntime, prices: &Prices, placed: &mut [u8]) -> io::Res
     println!(rt;
         "With {LITTLE} units, the placer turns idle slots into saves, none of which can be left out:"
     )?;
-    let _ = place_saves(rt, PIEZOMETER_PAIR, placed, &at(prices, LITTLE))?;
+    let verdict = place_saves(placed, &at(prices, LITTLE));
+    print_placement(rt, PIEZOMETER_PAIR, placed, verdict)?;
     println!(rt)?;
     println!(rt; "The round with these saves, at {LITTLE}:")?;
     let _ = certify_round(rt, placed, &at(prices, LITTLE))?;
@@ -111,36 +119,42 @@ const FRESH: u32 = 100;
 
 const AGED: u32 = 88;
 
-fn show_capacitor(
-    rt: &HostRuntime,
-    prices: &Prices,
-    image: &[u8],
-    microfarads: u32,
-    cuts: &[u64],
-) -> anyhow::Result<()> {
-    let calls = script(rt.alloc(), STEPS, cuts)?;
-    let source = Source::Capacitor {
+const fn capacitor(microfarads: u32) -> SupplyWord {
+    SupplyWord::Capacitor {
         microfarads,
         top: 3000,
         bottom: 2000,
         unit: 625_000,
-    };
-    run(rt, source, &taped(prices, image), calls.as_slice())
+    }
 }
 
-fn show_rig(rt: &HostRuntime, prices: &Prices, image: &[u8]) -> anyhow::Result<()> {
+fn show_headroom(rt: &HostRuntime, prices: &Prices, image: &[u8]) -> io::Result<()> {
     println!(rt;
-        "On a capacitor of {FRESH} microfarads, whose charge is 400 units, cut after 30 steps:"
+        "How much charge does it need, and how far may a capacitor of {FRESH} microfarads age?"
     )?;
-    show_capacitor(rt, prices, image, FRESH, &[30])?;
+    let _ = tell_headroom(rt, image, prices, Some(capacitor(FRESH)))?;
+    Ok(())
+}
+
+fn show_capacitor(
+    rt: &HostRuntime,
+    round: &Round<Prices>,
+    microfarads: u32,
+    cuts: &[u64],
+) -> io::Result<()> {
+    let calls = script(rt.alloc(), STEPS, cuts)?;
+    run_on(rt, capacitor(microfarads), round, calls.as_slice())
+}
+
+fn show_rig(rt: &HostRuntime, round: &Round<Prices>) -> io::Result<()> {
+    println!(rt; "On that capacitor, whose charge is 400 units, cut after 30 steps:")?;
+    show_capacitor(rt, round, FRESH, &[30])?;
     println!(rt)?;
-    println!(rt;
-        "Aged to {AGED} microfarads, its charge is 352 units. The dearest stretch costs 342, so it ends alike:"
-    )?;
-    show_capacitor(rt, prices, image, AGED, &[])
+    println!(rt; "Aged to {AGED} microfarads, its charge is 352 units, and it ends alike:")?;
+    show_capacitor(rt, round, AGED, &[])
 }
 
-pub fn guide(rt: &HostRuntime) -> anyhow::Result<()> {
+pub fn guide(rt: &HostRuntime) -> io::Result<()> {
     let prices = Prices::Operand;
     let mut placed = *PIEZOMETER_PAIR;
     show_round(rt)?;
@@ -153,5 +167,7 @@ pub fn guide(rt: &HostRuntime) -> anyhow::Result<()> {
     println!(rt)?;
     show_placing(rt, &prices, &mut placed)?;
     println!(rt)?;
-    show_rig(rt, &prices, &placed)
+    show_headroom(rt, &prices, &placed)?;
+    println!(rt)?;
+    show_rig(rt, &taped(&prices, &placed))
 }

@@ -1,5 +1,5 @@
 // The command `place`: turns idle slots into saves.
-use crate::list::Report;
+use crate::refusal::print_refusal;
 use crate::verdict::Verdict;
 use certifier::certify::Certifier;
 use isa::instruction::Role;
@@ -26,17 +26,20 @@ fn print_placed(rt: &HostRuntime, before: &[u8], after: &[u8]) -> io::Result<()>
     Ok(())
 }
 
-// Places saves in the image, and says where or why not.
-pub fn place_saves(
+// Places saves in the image.
+pub fn place_saves(image: &mut [u8], by: &Certifier<Prices>) -> Verdict {
+    place(image, by, &mut [Worth::default(); 1024])
+}
+
+// Says where saves were placed, or why not.
+pub fn print_placement(
     rt: &HostRuntime,
     before: &[u8],
-    image: &mut [u8],
-    by: &Certifier<Prices>,
-) -> io::Result<Verdict> {
-    let verdict = place(image, by, &mut [Worth::default(); 1024]);
+    after: &[u8],
+    verdict: Verdict,
+) -> io::Result<()> {
     match verdict {
-        Ok(()) => print_placed(rt, before, image)?,
-        Err(refusal) => println!(rt; "{}", Report(refusal))?,
+        Ok(()) => print_placed(rt, before, after),
+        Err(refusal) => print_refusal(rt, before, refusal),
     }
-    Ok(verdict)
 }

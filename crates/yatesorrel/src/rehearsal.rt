@@ -1,4 +1,4 @@
-// A round rehearsed over a supply: the script, and what came of it.
+// The command `run`: a round rehearsed over a supply, and what came of it.
 use certifier::certify::Certifier;
 use claims::call::Call;
 use claims::reply::Reply;
@@ -6,10 +6,11 @@ use claims::round::Round;
 use machine::ending::Ending;
 use machine::state::State;
 use pricing::prices::Prices;
-use rig::rehearse::rehearse;
+use rig::rehearse::{Watch, rehearse_watched};
 use rig::rig::Rig;
 use std::alloc::{AllocError, Global};
 use std::{fmt, io};
+use supply::source::Source;
 use supply::supply::Supply;
 
 // The largest budget that the certifier takes.
@@ -54,7 +55,7 @@ fn print_log(rt: &HostRuntime, state: &State) -> io::Result<()> {
     Ok(())
 }
 
-fn print_rig<S: Supply>(rt: &HostRuntime, rig: &Rig<S>) -> io::Result<()> {
+fn print_rig(rt: &HostRuntime, rig: &Rig<Source>) -> io::Result<()> {
     println!(rt; "charges {}", rig.charges())?;
     println!(rt; "saves {}", rig.saves())?;
     println!(rt; "cuts {}", rig.cuts())?;
@@ -66,7 +67,7 @@ fn print_rig<S: Supply>(rt: &HostRuntime, rig: &Rig<S>) -> io::Result<()> {
 
 // A word where the image is not accepted at the supply's budget: the rig runs
 // it all the same.
-fn warn(rt: &HostRuntime, round: &Round<Prices>, budget: u64) -> io::Result<()> {
+pub fn warn(rt: &HostRuntime, round: &Round<Prices>, budget: u64) -> io::Result<()> {
     let certifier = Certifier {
         model: round.model,
         budget: budget.min(MOST_BUDGET),
@@ -77,15 +78,38 @@ fn warn(rt: &HostRuntime, round: &Round<Prices>, budget: u64) -> io::Result<()> 
     Ok(())
 }
 
-pub fn rehearse_round<S: Supply + Drop>(
+// Shows on standard error how far a long rehearsal has come.
+#[derive(Drop)]
+struct Progress<'a> {
+    rt: &'a HostRuntime,
+    attempts: u64,
+}
+
+// The attempts between two lines of progress.
+const ATTEMPTS_SHOWN: u64 = 250_000;
+
+impl Watch for Progress<'_> {
+    fn made(&mut self, _calls: usize, reply: Reply) {
+        if !matches!(reply, Reply::Step(Ok(_))) {
+            return;
+        }
+        self.attempts = self.attempts.saturating_add(1);
+        if self.attempts % ATTEMPTS_SHOWN == 0 {
+            let _ = eprintln!(self.rt; "yatesorrel: {} attempts made", self.attempts);
+        }
+    }
+}
+
+// Rehearses a round, and says what came of it.
+pub fn rehearse_round(
     rt: &HostRuntime,
-    supply: S,
+    source: Source,
     round: &Round<Prices>,
     calls: &[Call],
-) -> anyhow::Result<()> {
-    warn(rt, round, supply.budget())?;
+) -> io::Result<()> {
+    warn(rt, round, source.budget())?;
     let mut replies = vec![in rt.alloc(); Reply::Count(0); calls.len()]?;
-    let rig = rehearse(supply, round, calls, replies.as_mut_slice());
-    print_rig(rt, &rig)?;
-    Ok(())
+    let mut progress = Progress { rt, attempts: 0 };
+    let rig = rehearse_watched(source, round, calls, replies.as_mut_slice(), &mut progress);
+    print_rig(rt, &rig)
 }

@@ -175,7 +175,8 @@ typedef struct yatesorrel_state {
     uint8_t memory[512];
     /* how many readings of the tape were taken */
     size_t place;
-    /* of which the first `logged` count, at most 64 */
+    /* of which the first `logged` count; a run stops at 64, and a greater number
+     * is a full log */
     yatesorrel_record log[64];
     size_t logged;
 } yatesorrel_state;
@@ -251,8 +252,9 @@ void yatesorrel_mains(yatesorrel_supply *supply);
 /* -------------------------------------------------------------- The rig */
 
 /* A round on a supply that may say no. It is begun by yatesorrel_rig_begin, and
- * changed by its calls alone. Copy it and read it as you like. Where numbers
- * stand in it that no rig has, each call refuses it by 101. */
+ * changed by its calls alone. Copy it and read it as you like. Each call refuses
+ * it by 101 where its supply or a state of it would be refused so, or its saves
+ * outnumber its attempts. */
 typedef struct yatesorrel_rig {
     yatesorrel_supply supply;
     yatesorrel_state state;

@@ -3,7 +3,7 @@
 //!     compare [--seed N] [--inputs N] [--threads N] [--only INDEX]
 //!     compare speed [--repeats N]
 //!
-//! An input is made of the seed and its index alone, so the one that is named in
+//! An input is made of a seed and its index alone, so the one that is named in
 //! a difference can be had again by `--seed N --only INDEX`. The status is 1
 //! where library and twin differ, and 2 where too few kinds of answers were met.
 

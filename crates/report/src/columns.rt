@@ -39,7 +39,7 @@ fn halved(columns: &[Column]) -> ArrayVec<Column, 240>
 }
 
 impl Columns {
-    pub fn new() -> Columns
+    pub(crate) fn new() -> Columns
         ensures { result.list.items ≡ [] }
     {
         Columns {
@@ -47,7 +47,7 @@ impl Columns {
         }
     }
 
-    pub fn as_slice(&self) -> &[Column]
+    pub(crate) fn as_slice(&self) -> &[Column]
         ensures { result.now ≡ self.now.list.items }
     {
         self.list.as_slice()

@@ -112,7 +112,7 @@ impl<'a> Page<'a> {
             "{}",
             Verdict {
                 budget: self.budget,
-                answer: self.answer,
+                answer: self.verdict(),
             }
         )?;
         write!(
@@ -200,7 +200,7 @@ impl<'a> Page<'a> {
             SlotTable {
                 image: self.subject.round.image,
                 survey: self.survey.as_ref(),
-                answer: self.answer,
+                answer: self.verdict(),
             }
         )
     }

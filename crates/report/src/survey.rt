@@ -21,7 +21,11 @@ pub(crate) struct Survey {
 }
 
 impl Survey {
-    pub fn new<M: PriceModel>(image: &[u8], model: &M, worths: Option<[Worth; 1024]>) -> Survey
+    pub(crate) fn new<M: PriceModel>(
+        image: &[u8],
+        model: &M,
+        worths: Option<[Worth; 1024]>,
+    ) -> Survey
         ensures { result.worths ≡ worths }
     {
         let nodes = walk_table(image, model);
@@ -35,11 +39,11 @@ impl Survey {
     }
 
     // The starts, the lowest first.
-    pub fn is_start(&self, slot: u16) -> bool {
+    pub(crate) fn is_start(&self, slot: u16) -> bool {
         self.starts.get(slot as usize).copied().unwrap_or(false)
     }
 
-    pub fn membership(&self, slot: u16) -> Membership {
+    pub(crate) fn membership(&self, slot: u16) -> Membership {
         self.memberships
             .list
             .get(slot as usize)
@@ -47,33 +51,33 @@ impl Survey {
             .unwrap_or_default()
     }
 
-    pub fn region_of(&self, start: u16) -> Region {
+    pub(crate) fn region_of(&self, start: u16) -> Region {
         region_of(&self.starts, start)
     }
 
-    pub fn size_of(&self, start: u16) -> u16 {
+    pub(crate) fn size_of(&self, start: u16) -> u16 {
         size_of(&self.nodes, start)
     }
 
     // What a slot costs a walk.
-    pub fn price_at(&self, slot: u16) -> u64 {
+    pub(crate) fn price_at(&self, slot: u16) -> u64 {
         self.nodes.get(slot as usize).map_or(0, |node| node.price)
     }
 
     // What the dearest walk from a slot costs, where the certifier left it.
-    pub fn worth_at(&self, slot: u16) -> Option<u64> {
+    pub(crate) fn worth_at(&self, slot: u16) -> Option<u64> {
         let worths = self.worths?;
         worths.get(slot as usize).map(|worth| worth.price)
     }
 
     // The start with the dearest walk, where the certifier left worths.
-    pub fn dearest_start(&self) -> Option<u16> {
+    pub(crate) fn dearest_start(&self) -> Option<u16> {
         let worths = self.worths?;
         Some(dearest_start(&self.starts, &worths))
     }
 
     // Where the dearest walk goes on from a slot, or none where it ends.
-    pub fn onward(&self, slot: u16) -> Option<u16> {
+    pub(crate) fn onward(&self, slot: u16) -> Option<u16> {
         let worths = self.worths?;
         onward(&self.nodes, &worths, slot)
     }

@@ -61,7 +61,7 @@ impl fmt::Display for Ended {
     }
 }
 
-pub fn prices_words(prices: &Prices) -> &'static str {
+pub(crate) fn prices_words(prices: &Prices) -> &'static str {
     match prices {
         Prices::Operand => "the operand model",
         Prices::Flat(_) => "a price for each opcode, from a file",
@@ -69,7 +69,7 @@ pub fn prices_words(prices: &Prices) -> &'static str {
 }
 
 // What a slot is to a round, where that needs saying.
-pub fn role_words(role: Role) -> &'static str {
+pub(crate) fn role_words(role: Role) -> &'static str {
     match role {
         Role::Save => "save",
         Role::Exit => "exit",
@@ -94,6 +94,6 @@ impl fmt::Display for Shown {
 }
 
 // One of several, or many: the word for a count.
-pub fn plural<'a>(count: u64, one: &'a str, many: &'a str) -> &'a str {
+pub(crate) fn plural<'a>(count: u64, one: &'a str, many: &'a str) -> &'a str {
     if count == 1 { one } else { many }
 }

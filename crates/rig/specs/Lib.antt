@@ -3,3 +3,4 @@ pub mod Parts
 pub mod Plan
 pub mod Rehearsal
 pub mod Seen
+pub mod Watch

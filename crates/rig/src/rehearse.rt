@@ -1,8 +1,11 @@
 // A rehearsal: a rig begun on a supply, and the calls of a script.
+ghost use Rattle.std.specs.Prelude.{ℕ, min, length, take};
 ghost use Rattle.claims.specs.History.{Called};
 ghost use Rattle.claims.specs.Round.{machine_of};
+ghost use Rattle.claims.specs.declared.reply.Reply.{Reply};
 ghost use Rattle.rig.specs.Rehearsal.{Rehearsed};
 ghost use Rattle.rig.specs.Seen.{seen};
+ghost use Rattle.rig.specs.Watch.{Told};
 
 use crate::rig::Rig;
 use claims::call::Call;
@@ -32,11 +35,17 @@ impl<S: Supply> Rig<S> {
 // the last one answered.
 // Stays: a closure is called under a `requires`, and no public call here has one.
 pub trait Watch {
-    fn made(&mut self, calls: usize, reply: Reply);
+    // what a telling does to a watcher
+    ghost tells: { Self → ℕ → Reply → Self → Type 0 };
+
+    fn made(&mut self, calls: usize, reply: Reply)
+        ensures { tells self.old calls reply self.new };
 }
 
 // Nobody watches.
 impl Watch for () {
+    ghost tells = { λ _ _ _ _. Unit {0} };
+
     fn made(&mut self, _calls: usize, _reply: Reply) {}
 }
 
@@ -62,13 +71,15 @@ pub fn rehearse_watched<S: Supply, M: PriceModel, W: Watch>(
     replies: &mut [Reply],
     watch: &mut W,
 ) -> Rig<S>
-    ensures { Rehearsed S.Supply M.PriceModel.means round.now supply calls.now replies.old replies.new (seen result) }
+    ensures rehearsed { Rehearsed S.Supply M.PriceModel.means round.now supply calls.now replies.old replies.new (seen result) }
+    ensures told { let n = min (length calls.now) (length replies.old) in Told W.Watch.tells watch.old n (take n replies.new) watch.new }
 {
     let mut rig = Rig::begin(supply);
     // Stays: a proof knows nothing of the replies after iter_mut().zip(calls).
     for made in 0..calls.len().min(replies.len()) {
-        replies[made] = rig.call(calls[made], round);
-        watch.made(made + 1, replies[made]);
+        let reply = rig.call(calls[made], round);
+        replies[made] = reply;
+        watch.made(made + 1, reply);
     }
     rig
 }

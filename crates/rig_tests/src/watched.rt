@@ -17,6 +17,8 @@ struct Told {
 }
 
 impl Watch for Told {
+    ghost tells = { λ _ _ _ _. Unit {0} };
+
     fn made(&mut self, calls: usize, reply: Reply) {
         if let Some(times) = self.counts.get_mut(calls) {
             *times = times.wrapping_add(1);

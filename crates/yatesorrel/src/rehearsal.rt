@@ -89,6 +89,8 @@ struct Progress<'a> {
 const ATTEMPTS_SHOWN: u64 = 250_000;
 
 impl Watch for Progress<'_> {
+    ghost tells = { λ _ _ _ _. Unit {0} };
+
     fn made(&mut self, _calls: usize, reply: Reply) {
         if !matches!(reply, Reply::Step(Ok(_))) {
             return;

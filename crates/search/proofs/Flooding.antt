@@ -41,8 +41,8 @@ begins {starts} {seen} {queue} unseen empty = subst (λ (xs : List Bool). Begun 
 
 -- so what those seen reach, the starts reach
 pub tells_starts : {g : Net} {starts seen : List Bool} {queue : List ℕ} {i : ℕ} (table : List Bool) → Begun starts seen queue i
-    → length starts ≡ 1024 → 1024 ≤ i → Tells table (Reached g seen) → Tells table (Reached g starts)
-tells_starts {starts = starts} {i = i} table B size end told n h = (
+    → length starts ≤ i → Tells table (Reached g seen) → Tells table (Reached g starts)
+tells_starts {starts = starts} {i = i} table B end told n h = (
   λ s. let R = (told n h).0 s in record { start = R.start; chosen = B.from R.start R.chosen; reaches = R.reaches },
   λ R.
       let lt : R.start < i = omega (arith, seen_below starts R.start R.chosen) in

@@ -1,109 +1,124 @@
--- The marks of a search: a node opened, its ways out visited, the node done.
-use Rattle.std.proofs.Common.{◌≡◌, ℕ, ◌+◌, ◌-◌, ◌<◌, ◌≤◌, true, ◌⊎◌, List, [], ◌∷◌, ◌++◌, length, get_or, set, Some, Option, sym, refl, ap, subst, inl, inr, ⊎_elim, arith}
+-- The marks, the path and the order of a search: a node opened, a node done, a visit from its beginning to its end.
+use Rattle.std.proofs.Common.{◌≡◌, ℕ, zero, suc, ◌+◌, ◌-◌, ◌<◌, true, ◌⊎◌, List, [], ◌∷◌, ◌++◌, length, get_or, set, Some, None, Ok, Err, Option, Result, sym, refl, ap, ◌∙◌, subst, inl, inr, ⊎_elim, arith}
 use Rattle.std.proofs.lemmas.Grind.{common_steps}
 use Rattle.std.proofs.lemmas.Bool.{cases_eq}
 use Rattle.paths.specs.Net.{Net, In}
+use Rattle.search.specs.declared.order.Looping.{Looping}
 use Rattle.search.specs.declared.order.Mark.{Mark}
 use Rattle.search.specs.declared.order.Mark.TheVariants.{New, Open, Done}
-use Rattle.search.specs.Reach.{Reaches, itself}
+use Rattle.search.specs.Reach.{Reaches, itself, onward}
 use Rattle.search.specs.Ways.{Split}
-use Rattle.search.specs.Visit.{mark_at, is_new, is_done, news, Sound, Grow, Enters, Ahead, Visited, LoopAhead}
-use Rattle.search.proofs.Counting.{count_le, count_room}
+use Rattle.search.specs.Visit.{mark_at, is_open, is_done, news, Sound, Path, Rests, Marked, NextWay, LoopAhead}
+use Rattle.search.proofs.Counting.{count_room, count_none}
 use Rattle.search.proofs.Listing.{still_listed, all_listed}
-use Rattle.search.proofs.Reaching.{step_first, leads_on}
 
-is_new_New : (y : Mark) → is_new y ≡ true → y ≡ New
-is_new_New New e = refl
-is_new_New Open e = cc
-is_new_New Done e = cc
+is_open_Open : (y : Mark) → is_open y ≡ true → y ≡ Open
+is_open_Open New e = cc
+is_open_Open Open e = refl
+is_open_Open Done e = cc
 
--- a New node, opened
-module _ {g : Net} {marks : List Mark} {order : List ℕ} {u depth : ℕ} (E : Enters g marks order (Some u) depth) (new : mark_at marks u ≡ New) where
-  below : u < length marks
-  below = omega (arith, E.inside u refl, E.sound.sized)
+-- where the first way out of a node comes to no New node, the second is what the node comes to
+pub second_next : (g : Net) (marks : List Mark) (n : ℕ) {x y : Option ℕ} → Split (g.ways n) x y → Marked marks x (Ok None)
+    → (r : Result (Option ℕ) Looping) → Marked marks y r → NextWay g marks n r
+second_next g marks n split done (Ok (Some t)) m = let s = split.second t m.0 in (s.0, s.1, m.1)
+second_next g marks n split done (Ok None) m = λ t i lt. ⊎_elim (done t) (m t) (split.all t i lt)
+second_next g marks n split done (Err e) m = (m.0, (split.second m.0 m.1).0, m.2)
 
-  fewer : news (set marks u Open) + 1 ≡ news marks
+-- a New node, opened at the end of the path
+module _ (g : Net) (marks : List Mark) (path order : List ℕ) (t : ℕ) (S : Sound g marks order) (P : Path g marks path)
+    (new : mark_at marks t ≡ New) (inside : t < 1024) where
+  below : t < length marks
+  below = omega (arith, inside, S.sized)
+
+  pub fewer : news (set marks t Open) + 1 ≡ news marks
   fewer = let h = below in grind (arith, common_steps)
 
-  pub depth_left : 1 ≤ depth
-  depth_left = omega (arith, fewer, E.deep)
+  pub path_room : length path < 1024
+  path_room = omega (arith, count_room is_open New marks t Open below (ap is_open new) refl, P.filled, S.sized)
 
-  opened : Sound g (set marks u Open) order
-  opened =
+  opened_sound : Sound g (set marks t Open) order
+  opened_sound =
       let h = below in
       record {
-        sized = grind (arith, common_steps, E.sound.sized);
-        filled = grind (arith, common_steps, E.sound.filled);
-        after = E.sound.after;
-        once = E.sound.once;
-        listed = λ p lt. grind (arith, common_steps, E.sound.listed p lt);
-        found = λ n d. E.sound.found n (grind (arith, common_steps));
+        sized = grind (arith, common_steps, S.sized);
+        filled = grind (arith, common_steps, S.filled);
+        after = S.after;
+        once = S.once;
+        listed = λ p lt. grind (arith, common_steps, S.listed p lt);
+        found = λ n d. S.found n (grind (arith, common_steps));
       }
 
-  opened_enters : (way : Option ℕ) → ((t : ℕ) → way ≡ Some t → In t (g.ways u) × (t < 1024)) → Enters g (set marks u Open) order way (depth - 1)
-  opened_enters way steps = record {
-    sound = opened;
-    deep = omega (arith, fewer, E.deep);
-    inside = λ t e. (steps t e).1;
-    stack = λ t e n h. ⊎_elim
-        (λ (is : n ≡ u). record { before = u; reaches = subst (λ (x : ℕ). Reaches g x u) (sym is) itself; last = (steps t e).0 })
-        (λ (ne : n ≡ u → ⊥). leads_on g n u t (E.stack u refl n (grind (arith, common_steps))) (steps t e).0)
-        (cases_eq n u);
-  }
-
--- an Open node met again lies on a loop
-pub open_loop : {g : Net} {marks : List Mark} {order : List ℕ} {way : Option ℕ} {t depth : ℕ} → Enters g marks order way depth
-    → way ≡ Some t → mark_at marks t ≡ Open → LoopAhead g way
-open_loop {t = t} E e is = record { n = t; ahead = record { to = t; taken = e; reaches = itself }; on_loop = E.stack t e t is }
-
--- a visit leaves the next one ready
-visited_enters : (g : Net) (marks marks' : List Mark) (order order' : List ℕ) (way way' : Option ℕ) (depth : ℕ)
-    → Enters g marks order way depth → Visited g marks marks' order' way' → Enters g marks' order' way depth
-visited_enters g marks marks' order order' way way' depth E V = record {
-  sound = V.sound;
-  deep =
-      let e : length marks ≡ length marks' = omega (arith, E.sound.sized, V.sound.sized) in
-      omega (arith, E.deep, count_le is_new New marks marks' e (λ n h. ap is_new (V.grow.was_new n (is_new_New (mark_at marks' n) h))));
-  inside = E.inside;
-  stack = λ t e n h. E.stack t e n (V.grow.was_open n h);
-}
-
-grow_trans : (a b c : List Mark) → Grow a b → Grow b c → Grow a c
-grow_trans a b c G H = record {
-  was_open = λ n h. G.was_open n (H.was_open n h);
-  was_new = λ n h. G.was_new n (H.was_new n h);
-  still_open = λ n h. H.still_open n (G.still_open n h);
-  still_done = λ n h. H.still_done n (G.still_done n h);
-}
-
--- an Open node of which every way out is Done, done itself
-module _ (g : Net) (marks marks' : List Mark) (order : List ℕ) (u : ℕ) (new : mark_at marks u ≡ New) (below : u < length marks) (size : length marks ≡ 1024)
-    (S : Sound g marks' order) (G : Grow (set marks u Open) marks') where
-  is_open : mark_at marks' u ≡ Open
-  is_open = G.still_open u (grind (arith, common_steps))
-
-  below' : u < length marks'
-  below' = omega (arith, S.sized)
-
-  room : length order < 1024
-  room = omega (arith, count_room is_done New marks' u Done below' (ap is_done is_open) refl, S.filled, S.sized)
-
-  grows : Grow marks (set marks' u Done)
-  grows =
-      let h = below' in
-      let o = is_open in
+  opened_path : ((p : ℕ) → p + 1 ≡ length path → In t (g.ways (get_or path p 0))) → Path g (set marks t Open) (path ++ t ∷ [])
+  opened_path step =
+      let h = below in
       record {
-        was_open = λ n m. grind (arith, common_steps, G.was_open n);
-        was_new = λ n m. grind (arith, common_steps, G.was_new n);
-        still_open = λ n m. grind (arith, common_steps, G.still_open n);
-        still_done = λ n m. grind (arith, common_steps, G.still_done n);
+        filled = grind (arith, common_steps, P.filled);
+        steps = λ p lt. ⊎_elim
+            (λ (is : p + 1 ≡ length path).
+            let e : get_or (path ++ t ∷ []) (p + 1) 0 ≡ t = grind (arith, common_steps) in
+            let f : get_or (path ++ t ∷ []) p 0 ≡ get_or path p 0 = grind (arith, common_steps) in
+            subst (λ (x : ℕ). In (get_or (path ++ t ∷ []) (p + 1) 0) (g.ways x)) (sym f) (subst (λ (x : ℕ). In x (g.ways (get_or path p 0))) (sym e) (step p is)))
+            (λ (ne : p + 1 ≡ length path → ⊥).
+            let h : p + 1 < length path = grind (arith, common_steps) in
+            let e : get_or (path ++ t ∷ []) (p + 1) 0 ≡ get_or path (p + 1) 0 = grind (arith, common_steps) in
+            let f : get_or (path ++ t ∷ []) p 0 ≡ get_or path p 0 = grind (arith, common_steps) in
+            subst (λ (x : ℕ). In (get_or (path ++ t ∷ []) (p + 1) 0) (g.ways x)) (sym f) (subst (λ (x : ℕ). In x (g.ways (get_or path p 0))) (sym e) (P.steps p h)))
+            (cases_eq (p + 1) (length path));
+        once = λ p q l lt e. grind (arith, common_steps, P.listed p, P.once p q l);
+        listed = λ p lt. grind (arith, common_steps, P.listed p);
+        found = λ n o. all_listed path t n (⊎_elim inl (λ (ne : n ≡ t → ⊥). inr (P.found n (grind (arith, common_steps)))) (cases_eq n t));
       }
 
-  module _ (ways : (t : ℕ) → In t (g.ways u) → t < 1024 → mark_at marks' t ≡ Done) where
-    done : Sound g (set marks' u Done) (order ++ u ∷ [])
-    done =
-        let h = below' in
-        let o = is_open in
+-- the node at the end of the path, all of whose ways out are Done, done itself
+module _ (g : Net) (marks : List Mark) (rest order : List ℕ) (u : ℕ) (S : Sound g marks order) (P : Path g marks (rest ++ u ∷ [])) where
+  is_open_last : mark_at marks u ≡ Open
+  is_open_last =
+      let l : length (rest ++ u ∷ []) ≡ length rest + 1 = grind (arith, common_steps) in
+      let e : get_or (rest ++ u ∷ []) (length rest) 0 ≡ u = grind (arith, common_steps) in
+      ap (mark_at marks) (sym e) ∙ P.listed (length rest) (omega arith)
+
+  below_last : u < length marks
+  below_last = let o = is_open_last in grind (arith, common_steps)
+
+  pub order_room : length order < 1024
+  order_room = omega (arith, count_room is_done New marks u Done below_last (ap is_done is_open_last) refl, S.filled, S.sized)
+
+  same_news : news (set marks u Done) ≡ news marks
+  same_news = let h = below_last in let o = is_open_last in grind (arith, common_steps)
+
+  closed_path : Path g (set marks u Done) rest
+  closed_path =
+      let h = below_last in
+      let o = is_open_last in
+      let l : length (rest ++ u ∷ []) ≡ length rest + 1 = grind (arith, common_steps) in
+      let last : get_or (rest ++ u ∷ []) (length rest) 0 ≡ u = grind (arith, common_steps) in
+      let same : (p : ℕ) → p < length rest → get_or (rest ++ u ∷ []) p 0 ≡ get_or rest p 0 = λ p lt. grind (arith, common_steps) in
+      record {
+        filled = grind (arith, common_steps, P.filled);
+        steps = λ p lt.
+            subst (λ (x : ℕ). In (get_or rest (p + 1) 0) (g.ways x)) (same p (omega arith))
+            (subst (λ (x : ℕ). In x (g.ways (get_or (rest ++ u ∷ []) p 0))) (same (p + 1) lt) (P.steps p (omega (arith, l))));
+        once = λ p q lt lq e. P.once p q lt (omega (arith, l)) (same p (omega arith) ∙ e ∙ sym (same q lq));
+        listed = λ p lt.
+            let ne : get_or rest p 0 ≡ u → ⊥ = λ e. P.once p (length rest) lt (omega (arith, l)) (same p lt ∙ e ∙ sym last) in
+            let was : mark_at marks (get_or rest p 0) ≡ Open = ap (mark_at marks) (sym (same p lt)) ∙ P.listed p (omega (arith, l)) in
+            grind (arith, common_steps);
+        found = λ n d.
+            let ne : n ≡ u → ⊥ = λ e. grind (arith, common_steps) in
+            let L = P.found n (grind (arith, common_steps)) in
+            ⊎_elim
+            (λ (is : L.0 ≡ length rest). absurd (ne (sym L.2 ∙ ap (λ (p : ℕ). get_or (rest ++ u ∷ []) p 0) is ∙ last)))
+            (λ (not : L.0 ≡ length rest → ⊥).
+            let lt : L.0 < length rest = grind (arith, common_steps, L.1, l) in
+            (L.0, lt, sym (same L.0 lt) ∙ L.2))
+            (cases_eq L.0 (length rest));
+      }
+
+  module _ (ways : (t : ℕ) → In t (g.ways u) → t < 1024 → mark_at marks t ≡ Done) where
+    closed_sound : Sound g (set marks u Done) (order ++ u ∷ [])
+    closed_sound =
+        let h = below_last in
+        let o = is_open_last in
         record {
           sized = grind (arith, common_steps, S.sized);
           filled = grind (arith, common_steps, S.filled);
@@ -121,64 +136,132 @@ module _ (g : Net) (marks marks' : List Mark) (order : List ℕ) (u : ℕ) (new 
           found = λ n d. all_listed order u n (⊎_elim inl (λ (ne : n ≡ u → ⊥). inr (S.found n (grind (arith, common_steps)))) (cases_eq n u));
         }
 
-    finish : ((n : ℕ) → mark_at marks' n ≡ Done → (mark_at (set marks u Open) n ≡ Done) ⊎ Reaches g u n)
-        → Visited g marks (set marks' u Done) (order ++ u ∷ []) (Some u)
-    finish from =
-        let h = below' in
+-- along a path, each node reaches those after it
+along : (g : Net) (marks : List Mark) (path : List ℕ) → Path g marks path → (k p : ℕ) → p + k < length path
+    → Reaches g (get_or path p 0) (get_or path (p + k) 0)
+along g marks path P zero p lt = subst (λ (x : ℕ). Reaches g (get_or path p 0) (get_or path x 0)) (omega arith) itself
+along g marks path P (suc k) p lt =
+    let e : p + k + 1 ≡ p + suc k = omega arith in
+    subst (λ (x : ℕ). Reaches g (get_or path p 0) (get_or path x 0)) e
+    (onward (along g marks path P k p (omega arith)) (P.steps (p + k) (omega arith)))
+
+-- a visit of a node that is under way
+pub record Visiting (g : Net) (was : List Mark) (start : ℕ) (marks : List Mark) (path order : List ℕ) : Type 0 where
+  pub sound : Sound g marks order
+  pub on_path : Path g marks path
+  pub seen : mark_at marks start ≡ New → ⊥
+  pub still_done : (n : ℕ) → mark_at was n ≡ Done → mark_at marks n ≡ Done
+  pub open_from : (n : ℕ) → mark_at marks n ≡ Open → Reaches g start n
+  pub done_from : (n : ℕ) → mark_at marks n ≡ Done → (mark_at was n ≡ Done) ⊎ Reaches g start n
+
+-- a visit begins with its node
+pub visit_begins : {g : Net} {marks : List Mark} {path order path' : List ℕ} (t : ℕ) → Rests g marks path order → mark_at marks t ≡ New → t < 1024
+    → path' ≡ path ++ t ∷ [] → Visiting g marks t (set marks t Open) path' order
+visit_begins {g} {marks} {path} {order} {path'} t R new inside e = record {
+  sound = opened_sound g marks [] order t R.sound nothing new inside;
+  on_path = subst (Path g (set marks t Open)) (sym alone) (opened_path g marks [] order t R.sound nothing new inside (λ p h. absurd (omega arith)));
+  seen = λ h. let b = below g marks [] order t R.sound nothing new inside in grind (arith, common_steps);
+  still_done = λ n d. grind (arith, common_steps);
+  open_from = λ n o. ⊎_elim
+      (λ (is : n ≡ t). subst (Reaches g t) (sym is) itself)
+      (λ (ne : n ≡ t → ⊥). absurd (R.none_open n (grind (arith, common_steps))))
+      (cases_eq n t);
+  done_from = λ n d. inl (grind (arith, common_steps));
+}
+  where
+    alone : path' ≡ [] ++ t ∷ []
+    alone = e ∙ ap (λ (x : List ℕ). x ++ t ∷ []) R.empty
+
+    none : (n : ℕ) → is_open (mark_at marks n) ≡ true → ⊥
+    none n o = R.none_open n (is_open_Open (mark_at marks n) o)
+
+    nothing : Path g marks []
+    nothing = record {
+      filled = sym (count_none is_open New marks none);
+      steps = λ p lt. absurd (omega arith);
+      once = λ p q l lt ee. absurd (omega arith);
+      listed = λ p lt. absurd (omega arith);
+      found = λ n o. absurd (R.none_open n o);
+    }
+
+module _ {g : Net} {was : List Mark} {start : ℕ} {marks : List Mark} {path order : List ℕ} (V : Visiting g was start marks path order) where
+  module _ (rest : List ℕ) (u : ℕ) (apart : path ≡ rest ++ u ∷ []) where
+    whole : Path g marks (rest ++ u ∷ [])
+    whole = subst (Path g marks) apart V.on_path
+
+    pub last_inside : u < 1024
+    last_inside = omega (arith, below_last g marks rest order u V.sound whole, V.sound.sized)
+
+    last_open : mark_at marks u ≡ Open
+    last_open = is_open_last g marks rest order u V.sound whole
+
+    -- it goes on by a way out to a New node,
+    pub visit_goes_on : {t : ℕ} {path' : List ℕ} → NextWay g marks u (Ok (Some t)) → path' ≡ (rest ++ u ∷ []) ++ t ∷ []
+        → Visiting g was start (set marks t Open) path' order
+    visit_goes_on {t} {path'} way e =
+        let new = way.2 in
+        let b = below g marks (rest ++ u ∷ []) order t V.sound whole way.2 way.1 in
         record {
-          sound = done;
-          grow = grows;
-          done = λ t e. grind (arith, common_steps);
-          from = λ n d. ⊎_elim
-              (λ (is : n ≡ u). inr (record { to = u; taken = refl; reaches = subst (Reaches g u) (sym is) itself }))
-              (λ (ne : n ≡ u → ⊥). ⊎_elim
-              (λ (was : mark_at (set marks u Open) n ≡ Done). inl (grind (arith, common_steps)))
-              (λ (r : Reaches g u n). inr (record { to = u; taken = refl; reaches = r }))
-              (from n (grind (arith, common_steps))))
+          sound = opened_sound g marks (rest ++ u ∷ []) order t V.sound whole way.2 way.1;
+          on_path = subst (Path g (set marks t Open)) (sym e)
+              (opened_path g marks (rest ++ u ∷ []) order t V.sound whole way.2 way.1
+              (λ p is.
+              let f : get_or (rest ++ u ∷ []) p 0 ≡ u = grind (arith, common_steps) in
+              subst (λ (x : ℕ). In t (g.ways x)) (sym f) way.0));
+          seen = λ h. V.seen (grind (arith, common_steps));
+          still_done = λ n d. let h = V.still_done n d in grind (arith, common_steps);
+          open_from = λ n o. ⊎_elim
+              (λ (is : n ≡ t). subst (Reaches g start) (sym is) (onward (V.open_from u last_open) way.0))
+              (λ (ne : n ≡ t → ⊥). V.open_from n (grind (arith, common_steps)))
+              (cases_eq n t);
+          done_from = λ n d. V.done_from n (grind (arith, common_steps));
+        }
+
+    -- meets an Open node again, which lies on a loop,
+    pub visit_loops : {e : Looping} → NextWay g marks u (Err e) → LoopAhead g start
+    visit_loops met =
+        let t = met.0 in
+        let L = V.on_path.found t met.2 in
+        let l : length path ≡ length rest + 1 = grind (arith, common_steps) in
+        let last : get_or path (L.0 + (length rest - L.0)) 0 ≡ u = grind (arith, common_steps, L.1) in
+        record {
+          node = t;
+          reaches = V.open_from t met.2;
+          on_loop = record {
+            before = u;
+            reaches = subst (λ (x : ℕ). Reaches g x u) L.2
+                (subst (Reaches g (get_or path L.0 0)) last (along g marks path V.on_path (length rest - L.0) L.0 (omega (arith, L.1))));
+            last = met.1;
+          };
+        }
+
+    -- or is done with the node
+    pub visit_leaves : {order' : List ℕ} → NextWay g marks u (Ok None) → order' ≡ order ++ u ∷ []
+        → Visiting g was start (set marks u Done) rest order'
+    visit_leaves {order'} ways e =
+        let b = below_last g marks rest order u V.sound whole in
+        let o = last_open in
+        record {
+          sound = subst (Sound g (set marks u Done)) (sym e) (closed_sound g marks rest order u V.sound whole ways);
+          on_path = closed_path g marks rest order u V.sound whole;
+          seen = λ h. V.seen (grind (arith, common_steps));
+          still_done = λ n d. let h = V.still_done n d in grind (arith, common_steps);
+          open_from = λ n d. V.open_from n (grind (arith, common_steps));
+          done_from = λ n d. ⊎_elim
+              (λ (is : n ≡ u). inr (subst (Reaches g start) (sym is) (V.open_from u o)))
+              (λ (ne : n ≡ u → ⊥). V.done_from n (grind (arith, common_steps)))
               (cases_eq n u);
         }
 
--- a node whose two ways out were visited
-module _ {g : Net} {marks : List Mark} {order : List ℕ} {u depth : ℕ} {x y : Option ℕ} (split : Split (g.ways u) x y)
-    (E : Enters g marks order (Some u) depth) (new : mark_at marks u ≡ New) where
-  pub first_enters : Enters g (set marks u Open) order x (depth - 1)
-  first_enters = opened_enters E new x split.first
+    pub open_room : {t : ℕ} → NextWay g marks u (Ok (Some t)) → length rest + 1 < 1024
+    open_room {t} way =
+        let r = path_room g marks (rest ++ u ∷ []) order t V.sound whole way.2 way.1 in
+        let l : length (rest ++ u ∷ []) ≡ length rest + 1 = grind (arith, common_steps) in
+        omega arith
 
-  -- what a way out reaches, the node reaches
-  further : {way : Option ℕ} → ((t : ℕ) → way ≡ Some t → In t (g.ways u) × (t < 1024)) → (n : ℕ) → Ahead g way n → Reaches g u n
-  further steps n A = step_first g u A.to n (steps A.to A.taken).0 A.reaches
+    pub done_room : length order < 1024
+    done_room = order_room g marks rest order u V.sound whole
 
-  loop_further : {way : Option ℕ} → ((t : ℕ) → way ≡ Some t → In t (g.ways u) × (t < 1024)) → LoopAhead g way → LoopAhead g (Some u)
-  loop_further steps L =
-      record { n = L.n; ahead = record { to = u; taken = refl; reaches = further steps L.n L.ahead }; on_loop = L.on_loop }
-
-  pub first_loop : LoopAhead g x → LoopAhead g (Some u)
-  first_loop = loop_further split.first
-
-  pub second_loop : LoopAhead g y → LoopAhead g (Some u)
-  second_loop = loop_further split.second
-
-  module _ {a : List Mark} {order₁ : List ℕ} (V : Visited g (set marks u Open) a order₁ x) where
-    pub second_enters : Enters g a order₁ y (depth - 1)
-    second_enters = visited_enters g (set marks u Open) a order order₁ y x (depth - 1) (opened_enters E new y split.second) V
-
-    module _ {b : List Mark} {order₂ : List ℕ} (W : Visited g a b order₂ y) where
-      grown : Grow (set marks u Open) b
-      grown = grow_trans (set marks u Open) a b V.grow W.grow
-
-      pub order_room : length order₂ < 1024
-      order_room = room g marks b order₂ u new (below E new) E.sound.sized W.sound grown
-
-      pub node_visited : {order₃ : List ℕ} → order₃ ≡ order₂ ++ u ∷ [] → Visited g marks (set b u Done) order₃ (Some u)
-      node_visited {order₃} e =
-          subst (λ (o : List ℕ). Visited g marks (set b u Done) o (Some u)) (sym e)
-          (finish g marks b order₂ u new (below E new) E.sound.sized W.sound grown ways from)
-        where
-          ways : (t : ℕ) → In t (g.ways u) → t < 1024 → mark_at b t ≡ Done
-          ways t s lt = ⊎_elim (λ (e : x ≡ Some t). W.grow.still_done t (V.done t e)) (λ (e : y ≡ Some t). W.done t e) (split.all t s lt)
-
-          from : (n : ℕ) → mark_at b n ≡ Done → (mark_at (set marks u Open) n ≡ Done) ⊎ Reaches g u n
-          from n h = ⊎_elim
-              (λ (d : mark_at a n ≡ Done). ⊎_elim inl (λ (A : Ahead g x n). inr (further split.first n A)) (V.from n d))
-              (λ (A : Ahead g y n). inr (further split.second n A))
-              (W.from n h)
+    -- a node that is left was not New
+    pub leaves_less : news (set marks u Done) ≡ news marks
+    leaves_less = same_news g marks rest order u V.sound whole

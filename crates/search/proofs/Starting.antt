@@ -4,37 +4,39 @@ use Rattle.std.proofs.lemmas.Grind.{common_steps}
 use Rattle.paths.specs.declared.node.Node.{Node}
 use Rattle.paths.specs.Net.{Net, In, Listed, tabled}
 use Rattle.search.specs.declared.order.Mark.{Mark}
-use Rattle.search.specs.declared.order.Mark.TheVariants.{New, Open, Done}
+use Rattle.search.specs.declared.order.Mark.TheVariants.{New, Done}
 use Rattle.search.specs.Reach.{Reaches, itself, onward, OnLoop, Reached}
-use Rattle.search.specs.Visit.{mark_at, Sound}
+use Rattle.search.specs.Visit.{mark_at, Rests}
 use Rattle.search.specs.Order.{After, Sorted}
 use Rattle.search.proofs.Reaching.{ways_below, loop_below}
 
 -- the starts below i have been visited
-pub record Started (g : Net) (starts : List Bool) (marks : List Mark) (order : List ℕ) (i : ℕ) : Type 0 where
-  pub sound : Sound g marks order
-  pub none_open : (n : ℕ) → mark_at marks n ≡ Open → ⊥
+pub record Started (g : Net) (starts : List Bool) (marks : List Mark) (path order : List ℕ) (i : ℕ) : Type 0 where
+  pub rests : Rests g marks path order
   pub all : (n : ℕ) → n < i → get_or starts n false ≡ true → mark_at marks n ≡ Done
   pub from : (n : ℕ) → mark_at marks n ≡ Done → Reached g starts n
 
 -- nothing is visited yet
-pub started : {g : Net} {starts : List Bool} {order : List ℕ} → order ≡ [] → Started g starts (replicate 1024 New) order 0
-started {g} {starts} {order} empty = go 1024 refl
+pub started : {g : Net} {starts : List Bool} {path order : List ℕ} → path ≡ [] → order ≡ [] → Started g starts (replicate 1024 New) path order 0
+started {g} {starts} {path} {order} no_path empty = go 1024 refl
   where
-    go : (k : ℕ) → k ≡ 1024 → Started g starts (replicate k New) order 0
+    go : (k : ℕ) → k ≡ 1024 → Started g starts (replicate k New) path order 0
     go k e =
         let none : length order ≡ 0 = ap length empty in
         let new : (n : ℕ) → mark_at (replicate k New) n ≡ New = λ n. grind (arith, common_steps) in
         record {
-          sound = record {
-            sized = grind (arith, common_steps);
-            filled = grind (arith, common_steps);
-            after = λ p t h s lt. absurd (omega arith);
-            once = λ p q l h e. absurd (omega arith);
-            listed = λ p h. absurd (omega arith);
-            found = λ n d. absurd (cc (new n));
+          rests = record {
+            sound = record {
+              sized = grind (arith, common_steps);
+              filled = grind (arith, common_steps);
+              after = λ p t h s lt. absurd (omega arith);
+              once = λ p q l h e. absurd (omega arith);
+              listed = λ p h. absurd (omega arith);
+              found = λ n d. absurd (cc (new n));
+            };
+            none_open = λ n d. cc (new n);
+            empty = no_path;
           };
-          none_open = λ n d. cc (new n);
           all = λ n l w. absurd (omega arith);
           from = λ n d. absurd (cc (new n));
         }
@@ -61,29 +63,29 @@ module _ (nodes : List Node) (size : length nodes ≡ 1024) (order : List ℕ) (
       let B = before (p + 1) l.before n L (omega arith) l.last (omega (arith, loop_below nodes n l)) in
       off_loop k B.2.0 n (omega (arith, B.1, B.2.1)) (omega (arith, B.1, B.2.1)) B.2.2 l
 
-pub sorted : (nodes : List Node) {starts : List Bool} {marks : List Mark} {order : List ℕ} {i : ℕ} → length nodes ≡ 1024
-    → Started (tabled nodes) starts marks order i → 1024 ≤ i → Sorted (tabled nodes) starts order
-sorted nodes {starts} {marks} {order} {i} size S end = record {
-  after = S.sound.after;
-  once = S.sound.once;
-  exact = λ n. (λ L. let d = is_Done n L in (below n d, S.from n d), λ q. S.sound.found n (reached_done n q.0 q.1));
+pub sorted : (nodes : List Node) {starts : List Bool} {marks : List Mark} {path order : List ℕ} {i : ℕ} → length nodes ≡ 1024
+    → Started (tabled nodes) starts marks path order i → length starts ≤ i → Sorted (tabled nodes) starts order
+sorted nodes {starts} {marks} {path} {order} {i} size S end = record {
+  after = S.rests.sound.after;
+  once = S.rests.sound.once;
+  exact = λ n. (λ L. let d = is_Done n L in (below n d, S.from n d), λ q. S.rests.sound.found n (reached_done n q.0 q.1));
   unlooped = λ n L.
       let lt : n < 1024 = omega (arith, loop_below nodes n L.on_loop) in
-      let K = S.sound.found n (reached_done n lt L.reached) in
-      off_loop nodes size order S.sound.after (K.0 + 1) K.0 n (omega arith) K.1 K.2 L.on_loop;
+      let K = S.rests.sound.found n (reached_done n lt L.reached) in
+      off_loop nodes size order S.rests.sound.after (K.0 + 1) K.0 n (omega arith) K.1 K.2 L.on_loop;
 }
   where
     is_Done : (n : ℕ) → Listed order (length order) n → mark_at marks n ≡ Done
-    is_Done n L = ap (mark_at marks) (sym L.2) ∙ S.sound.listed L.0 L.1
+    is_Done n L = ap (mark_at marks) (sym L.2) ∙ S.rests.sound.listed L.0 L.1
 
     below : (n : ℕ) → mark_at marks n ≡ Done → n < 1024
-    below n d = grind (arith, common_steps, S.sound.sized)
+    below n d = grind (arith, common_steps, S.rests.sound.sized)
 
     along : (s n : ℕ) → get_or starts s false ≡ true → Reaches (tabled nodes) s n → n < 1024 → mark_at marks n ≡ Done
-    along s n chosen itself lt = S.all s (omega arith) chosen
+    along s n chosen itself lt = let below : s < length starts = grind (arith, common_steps) in S.all s (omega arith) chosen
     along s n chosen (onward {m} r k) lt =
-        let L = S.sound.found m (along s m chosen r (omega (arith, ways_below nodes m n k))) in
-        let B = before nodes size order S.sound.after (length order) m n L (omega arith) k lt in
+        let L = S.rests.sound.found m (along s m chosen r (omega (arith, ways_below nodes m n k))) in
+        let B = before nodes size order S.rests.sound.after (length order) m n L (omega arith) k lt in
         is_Done n (B.2.0, omega (arith, B.1, B.2.1), B.2.2)
 
     reached_done : (n : ℕ) → n < 1024 → Reached (tabled nodes) starts n → mark_at marks n ≡ Done

@@ -1,13 +1,13 @@
 // The search for an order, each node after its successors, or for a loop:
 // depth first, from a node to its ways out and from a way out to the node that
-// it reaches, at most 1,024 deep.
-ghost use Rattle.std.specs.Prelude.{◌≡◌, Some, OnOk, OnErr};
+// it reaches. The nodes that it is inside of are a path in a list of its own,
+// so that its depth takes no stack.
+ghost use Rattle.std.specs.Prelude.{◌≡◌, ℕ, ◌<◌, OnOk, OnErr, Some};
 ghost use Rattle.paths.specs.Net.{tabled};
 ghost use Rattle.search.specs.declared.order.Mark.TheVariants.{New};
-ghost use Rattle.search.specs.Visit.{mark_at, Enters, Visited, LoopAhead};
+ghost use Rattle.search.specs.Visit.{mark_at, Rests, NextWay, Marked, Visited, LoopAhead};
 ghost use Rattle.search.specs.Order.{Searched};
 
-use crate::NODES;
 use crate::table::Table;
 use crate::ways::ways_within;
 use arrayvec::ArrayVec;
@@ -20,11 +20,13 @@ enum Mark {
     Done,
 }
 
-// The nodes visited so far, and the order of those that are done.
+// The nodes visited so far: the path of those that are open, and the order of
+// those that are done.
 #[derive(Drop)]
 struct Visits {
     // Stays: one for each of the device's 1,024 slots.
     marks: [Mark; 1024],
+    path: ArrayVec<u16, 1024>,
     order: ArrayVec<u16, 1024>,
 }
 
@@ -32,40 +34,56 @@ struct Visits {
 #[derive(Clone, Copy, Debug, PartialEq, Eq)]
 pub struct Looping;
 
+// A way out to a node that is new, or none where it is done or not there. A node
+// that is open is met again.
+fn if_new(marks: &[Mark; 1024], way: Option<u16>) -> Result<Option<u16>, Looping>
+    requires { (t : ℕ) → way ≡ Some t → t < 1024 }
+    ensures { Marked marks.now way result }
+{
+    let Some(node) = way else {
+        return Ok(None);
+    };
+    match marks[node as usize] {
+        Mark::New => Ok(way),
+        Mark::Open => Err(Looping),
+        Mark::Done => Ok(None),
+    }
+}
+
 impl Table<'_> {
-    // Fails where the node leads to a loop.
-    #[cycle(visit_node_visit_way)]
-    fn visit_node(&self, visits: &mut Visits, at: u16, depth: u16) -> Result<(), Looping>
-        requires ready { Enters (tabled self.now.nodes.now) visits.old.marks visits.old.order.items (Some at) depth }
-        requires fresh { mark_at visits.old.marks at ≡ New }
-        ensures ok { OnOk result (Visited (tabled self.now.nodes.now) visits.old.marks visits.new.marks visits.new.order.items (Some at)) }
-        ensures err { OnErr result (LoopAhead (tabled self.now.nodes.now) (Some at)) }
+    // The first way out of a node to one that is new; none where all are done.
+    fn next_way(&self, marks: &[Mark; 1024], node: u16) -> Result<Option<u16>, Looping>
+        requires { node < 1024 }
+        ensures { NextWay (tabled self.now.nodes.now) marks.now node result }
     {
-        let node = at as usize;
-        let (first, second) = ways_within(self.nodes[node].successors);
-        visits.marks[node] = Mark::Open;
-        self.visit_way(visits, first, depth - 1)?;
-        self.visit_way(visits, second, depth - 1)?;
-        visits.marks[node] = Mark::Done;
-        visits.order.push(at);
-        Ok(())
+        let (first, second) = ways_within(self.nodes[node as usize].successors);
+        match if_new(marks, first)? {
+            Some(way) => Ok(Some(way)),
+            None => if_new(marks, second),
+        }
     }
 
-    // Fails where the way leads to a loop.
-    #[cycle(visit_node_visit_way)]
-    fn visit_way(&self, visits: &mut Visits, way: Option<u16>, depth: u16) -> Result<(), Looping>
-        requires { Enters (tabled self.now.nodes.now) visits.old.marks visits.old.order.items way depth }
-        ensures ok { OnOk result (Visited (tabled self.now.nodes.now) visits.old.marks visits.new.marks visits.new.order.items way) }
-        ensures err { OnErr result (LoopAhead (tabled self.now.nodes.now) way) }
+    // Visits a node, and all that it leads to. Fails where it leads to a loop.
+    fn visit(&self, visits: &mut Visits, start: u16) -> Result<(), Looping>
+        requires rests { Rests (tabled self.now.nodes.now) visits.old.marks visits.old.path.items visits.old.order.items }
+        requires inside { start < 1024 }
+        requires fresh { mark_at visits.old.marks start ≡ New }
+        ensures ok { OnOk result (Visited (tabled self.now.nodes.now) visits.old.marks visits.new.marks visits.new.path.items visits.new.order.items start) }
+        ensures err { OnErr result (LoopAhead (tabled self.now.nodes.now) start) }
     {
-        let Some(at) = way else {
-            return Ok(());
-        };
-        match visits.marks[at as usize] {
-            Mark::New => self.visit_node(visits, at, depth),
-            Mark::Open => Err(Looping),
-            Mark::Done => Ok(()),
+        visits.marks[start as usize] = Mark::Open;
+        visits.path.push(start);
+        while let Some(node) = visits.path.pop() {
+            if let Some(way) = self.next_way(&visits.marks, node)? {
+                visits.marks[way as usize] = Mark::Open;
+                visits.path.push(node);
+                visits.path.push(way);
+            } else {
+                visits.marks[node as usize] = Mark::Done;
+                visits.order.push(node);
+            }
         }
+        Ok(())
     }
 
     // Puts the nodes that the starts reach in an order, each after its
@@ -75,12 +93,12 @@ impl Table<'_> {
     {
         let mut visits = Visits {
             marks: [Mark::New; 1024],
+            path: ArrayVec::new(),
             order: ArrayVec::new(),
         };
-        // Stays: tried `(0..NODES).zip(self.starts)`: four goals on what the zip yields stay open.
-        for start in 0..NODES {
-            if self.starts[start as usize] {
-                self.visit_way(&mut visits, Some(start), NODES)?;
+        for (start, &chosen) in self.starts.iter().enumerate() {
+            if chosen && matches!(visits.marks[start], Mark::New) {
+                self.visit(&mut visits, start as u16)?;
             }
         }
         Ok(visits.order)

@@ -80,9 +80,9 @@ impl Table<'_> {
     {
         let mut flood = Flood::new();
         // Stays: tried `(0..NODES).zip(self.starts)`: five goals on what the zip yields stay open.
-        for start in 0..NODES {
-            if self.starts[start as usize] {
-                flood.add(Some(start));
+        for (start, &chosen) in self.starts.iter().enumerate() {
+            if chosen {
+                flood.add(Some(start as u16));
             }
         }
         self.spread(&mut flood);

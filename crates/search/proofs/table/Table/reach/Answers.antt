@@ -5,4 +5,4 @@ pub loop-start-init : goal.loop-start-init
 loop-start-init c = begins c.new-flood.ensures.seen c.new-flood.ensures.queue
 
 pub returns : goal.returns
-returns c = tells_starts _ c.loop-start.invariant c.args.self.now.sized.1 c.loop-start-test.false c.spread.ensures
+returns c = tells_starts _ c.loop-start.invariant c.loop-start-test.false c.spread.ensures

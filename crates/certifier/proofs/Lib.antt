@@ -3,6 +3,7 @@ pub mod Certifying
 pub mod Charging
 pub mod Clearing
 pub mod Filling
+pub mod Fitting
 pub mod Judging
 pub mod Leaving
 pub mod Ordered

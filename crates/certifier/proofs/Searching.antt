@@ -80,7 +80,7 @@ module _ (g : Graph) (sound : Sound g) (small : g.size ≤ 1024) (nodes : List N
     looped_in n w =
         let p = (loop_right g sound n).0 w in record { reached = reachable_reached n p.0; on_loop = (leads_in n n p.0 p.1).1 }
 
-    looped_on : (n : ℕ) → LoopedIn (tabled nodes) starts n → Looped g n
+    pub looped_on : (n : ℕ) → LoopedIn (tabled nodes) starts n → Looped g n
     looped_on n w =
         let l = w.on_loop in
         (loop_right g sound n).1 (reached_reachable n w.reached, leads_on n n l.before l.reaches (node_onward l.before n l.last))

@@ -13,7 +13,7 @@ use pricing::model::PriceModel;
 
 // The entries that a working list needs: one for each slot of the largest
 // image.
-const ENTRIES: usize = 1024;
+pub(crate) const ENTRIES: usize = 1024;
 
 fn within_limits(budget: u64) -> bool
     ensures { result ≡ within_limits budget }

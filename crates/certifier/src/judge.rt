@@ -1,12 +1,16 @@
 // The judgement of a lawful image: a loop, a start over budget, or neither.
-ghost use Rattle.std.specs.Prelude.{◌≡◌, ℕ, ◌<◌, ◌≤◌, length, slice_index_or};
+ghost use Rattle.std.specs.Prelude.{◌≡◌, ℕ, ◌<◌, ◌≤◌, List, length, slice_index_or};
 ghost use Rattle.isa.specs.First.{first_below};
 ghost use Rattle.isa.specs.Refusal.{ok_unless};
 ghost use Rattle.isa.specs.Lawful.{Lawful};
 ghost use Rattle.paths.specs.Net.{tabled};
+ghost use Rattle.walks.specs.Graph.{Graph};
 ghost use Rattle.walks.specs.ImageGraph.{graph_of};
 ghost use Rattle.search.specs.Reach.{Looped};
 ghost use Rattle.search.specs.Loops.{Least};
+ghost use Rattle.search.specs.Order.{Sorted};
+ghost use Rattle.certifier.specs.Clear.{Cleared};
+ghost use Rattle.certifier.specs.Fits.{TableOf};
 ghost use Rattle.certifier.specs.Judge.{over_by, over_at, Judged};
 
 use crate::certify::Certifier;
@@ -55,6 +59,23 @@ fn lowest_loop(table: &Table<'_>) -> u16
     table.lowest_looped().unwrap()
 }
 
+// Fills a list of no worths along an order, and refuses by the lowest start
+// over budget.
+pub(crate) fn judge_order<V: Priced>(
+    table: &Table<'_>,
+    order: &[u16],
+    budget: u64,
+    worths: &mut [V],
+) -> Result<(), Refusal>
+    requires room { 1024 ≤ length worths.old }
+    requires sorted { Sorted (tabled table.now.nodes.now) table.now.starts.now order.now }
+    ensures { (g : Graph) → TableOf g table.now.nodes.now table.now.starts.now → (old : List V) → length worths.old ≡ length old → Cleared V.PathValue.kind g.size old worths.old → Judged V.PathValue.kind V.Priced.price g budget old worths.new result }
+{
+    let Table { nodes, starts } = *table;
+    fill(worths, order, nodes);
+    charge(worths, starts, budget)
+}
+
 // Refuses by the lowest slot that some walk holds twice, else by the lowest
 // start over budget. Without a loop it leaves the worths of the slots in the
 // list.
@@ -79,6 +100,5 @@ pub(crate) fn judge<V: Priced, M: PriceModel>(
         });
     };
     clear(worths, image.len() / 8);
-    fill(worths, order.as_slice(), &nodes);
-    charge(worths, &starts, by.budget)
+    judge_order(&table, order.as_slice(), by.budget, worths)
 }

@@ -4,5 +4,6 @@
 pub mod certify;
 mod clear;
 pub mod example;
+pub mod fits;
 mod judge;
 mod priced;

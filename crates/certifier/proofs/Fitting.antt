@@ -1,0 +1,67 @@
+-- The tables of a lawful image are tables of its graph, and what a search and a judgement over tables of a graph say of acceptance.
+use Rattle.std.proofs.Common.{◌≡◌, ℕ, ◌*◌, ◌<◌, Bool, true, false, List, length, is_ok, Result, sym, refl, ap, ◌∙◌, ⊎_elim, arith}
+use Rattle.std.proofs.lemmas.Bool.{cases_Bool}
+use Rattle.isa.specs.Lawful.{Lawful}
+use Rattle.isa.specs.declared.refusal.Refusal.{Refusal}
+use Rattle.pricing.specs.Model.{Model, Bounded}
+use Rattle.paths.specs.declared.node.Node.{Node}
+use Rattle.paths.specs.declared.price.Price.{Price}
+use Rattle.paths.specs.Net.{tabled, Described}
+use Rattle.paths.specs.Price.{price_kind, Saturates}
+use Rattle.paths.proofs.KindLaws.{price_laws}
+use Rattle.walks.specs.Graph.{Graph, net_of}
+use Rattle.walks.specs.Walk.{Start}
+use Rattle.walks.specs.Acceptance.{Answer, accepted}
+use Rattle.walks.specs.Certified.{certified}
+use Rattle.walks.specs.ImageGraph.{graph_of}
+use Rattle.walks.specs.Placing.{is_accepted}
+use Rattle.walks.proofs.Certifying.{certified_right}
+use Rattle.walks.proofs.Imaging.{lawful_small, lawful_sound}
+use Rattle.walks.proofs.TwoKinds.{worths_in}
+use Rattle.search.specs.Reach.{Looped, Tells}
+use Rattle.tables.proofs.Describing.{slots_small}
+use Rattle.certifier.specs.Priced.{price_of_price}
+use Rattle.certifier.specs.Certify.{result_of}
+use Rattle.certifier.specs.Judge.{Judged}
+use Rattle.certifier.specs.Fits.{TableOf}
+use Rattle.certifier.proofs.Judging.{judged_means}
+use Rattle.certifier.proofs.Searching.{looped_on}
+
+pub table_of_image : (m : Model) → Bounded m → (image : List ℕ) → Lawful image
+    → (nodes : List Node) → ((n : ℕ) → n < 1024 → Described nodes (net_of (graph_of m image)) n)
+    → (starts : List Bool) → Tells starts (Start (graph_of m image)) → TableOf (graph_of m image) nodes starts
+table_of_image m bounded image lawful nodes described starts told =
+    record {
+      sound = lawful_sound m image lawful;
+      most = 2 * 65535;
+      small = lawful_small m bounded image lawful;
+      size = slots_small image lawful;
+      described = described;
+      told = told;
+    }
+
+pub no_price : (x : Price) → x.price ≡ 0 → x ≡ price_kind.empty
+no_price x e = λ j. record { price = e j }
+
+pub ok_result : (a : Answer) → is_ok (result_of a) ≡ is_accepted a
+ok_result a = grind arith
+
+accepted_only : (a : Answer) → is_accepted a ≡ true → a ≡ accepted
+accepted_only a t = grind arith
+
+module _ (g : Graph) (nodes : List Node) (starts : List Bool) (t : TableOf g nodes starts) (budget : ℕ) where
+  pub fits_judged : (old new : List Price) (r : Result (Unit {0}) Refusal) → Judged price_kind price_of_price g budget old new r
+      → is_ok r ≡ is_accepted (certified g budget)
+  fits_judged old new r judged =
+      let saturates : Saturates price_kind price_of_price = record { at_empty = refl; at_join = λ x y. refl; at_extend = λ x s p. refl } in
+      let q = judged_means price_kind price_of_price g t.sound t.most t.small (worths_in price_kind price_laws price_of_price saturates g t.sound) budget old new r judged in
+      ap is_ok q.2 ∙ ok_result q.0 ∙ sym (ap is_accepted ((certified_right g t.sound budget q.0).1 q.1))
+
+  pub never_looping : (n : ℕ) → length nodes ≡ 1024 → length starts ≡ 1024 → Looped (tabled nodes) starts n → false ≡ is_accepted (certified g budget)
+  never_looping n sized length-starts looped =
+      ⊎_elim
+      (λ (e : is_accepted (certified g budget) ≡ true).
+      let a = (certified_right g t.sound budget accepted).0 (accepted_only (certified g budget) e) in
+      absurd (a.unlooped n (looped_on g t.sound t.size nodes sized t.described starts length-starts t.told n looped)))
+      (λ (e : is_accepted (certified g budget) ≡ false). sym e)
+      (cases_Bool (is_accepted (certified g budget)))

@@ -1,5 +1,5 @@
 -- The tables of a lawful image say what its graph says.
-use Rattle.std.proofs.Common.{◌≡◌, ℕ, ◌-◌, ◌<◌, ◌≤◌, Bool, true, false, cond, ltb, eqb, ◌↔◌, List, [], ◌∷◌, ◌++◌, get_or, ℤ, Some, None, Option, sym, refl, ap, ◌∙◌, subst, inl, inr, ⊎_elim, arith}
+use Rattle.std.proofs.Common.{◌≡◌, ℕ, ◌-◌, ◌<◌, ◌≤◌, Bool, true, false, cond, ltb, eqb, ◌↔◌, List, [], ◌∷◌, ◌++◌, length, get_or, ℤ, Some, None, Option, sym, refl, ap, ◌∙◌, subst, inl, inr, ⊎_elim, arith}
 use mathlib.Core.Path.{subst⁻¹}
 use lib.ListN.{get_or-eq_default}
 use Rattle.std.proofs.lemmas.Bool.{and_parts, and_from, or_cases, or_left, or_right, ltb-true, ltb-false, lt-ltb, eqb-true, eq-eqb, cases_eq}
@@ -87,15 +87,17 @@ module _ (m : Model) (image : List ℕ) (lawful : Lawful image) where
   walk_slot : (i : ℕ) (o : Option Instruction) → i ≡ (walk_node m i o).slot
   walk_slot i o = grind arith
 
-  pub described : (nodes : List Node) → Tabled no_node nodes (λ i. walk_node m i (instruction_at image i)) 1024
-      → (n : ℕ) → n < 1024 → Described nodes (net_of g) n
-  described nodes t n h =
-      let e : node_at nodes n ≡ walk_node m n (instruction_at image n) = t.holds n h in
+  pub described_at : (nodes : List Node) (n : ℕ) → node_at nodes n ≡ walk_node m n (instruction_at image n) → Described nodes (net_of g) n
+  described_at nodes n e =
       record {
         ways = walk_ways n ∙ sym (ap (λ (x : Node). ways_of x.successors) e);
         price = walk_price_lem n ∙ sym (ap (λ (x : Node). x.price) e);
         slot = walk_slot n (instruction_at image n) ∙ sym (ap (λ (x : Node). x.slot) e);
       }
+
+  pub described : (nodes : List Node) → Tabled no_node nodes (λ i. walk_node m i (instruction_at image i)) 1024
+      → (n : ℕ) → n < 1024 → Described nodes (net_of g) n
+  described nodes t n h = described_at nodes n (t.holds n h)
 
   -- over the net of all ways out, slot 0 reaches what is reachable
   net_way : (n s : ℕ) → In s ((way_net image).ways n) → In s (g.ways n)
@@ -138,15 +140,15 @@ module _ (m : Model) (image : List ℕ) (lawful : Lawful image) where
       let b = begins_start n in
       (λ e. b.0 (t.0 e), λ s. t.1 (b.1 s))
 
--- of any image
-module _ (image : List ℕ) (nodes : List Node) (t : Tabled no_node nodes (λ i. way_node i (instruction_at image i)) 1024) where
+-- of any image, where a table has all its ways out
+module _ (image : List ℕ) (nodes : List Node) (size : length nodes ≡ 1024)
+    (at : (n : ℕ) → n < 1024 → (tabled nodes).ways n ≡ ways_of (way_node n (instruction_at image n)).successors) where
   same_ways : (n : ℕ) → (tabled nodes).ways n ≡ (way_net image).ways n
   same_ways n = go (ltb n 1024) refl
     where
       go : (b : Bool) → ltb n 1024 ≡ b → (tabled nodes).ways n ≡ cond b (ways_of (way_node n (instruction_at image n)).successors) []
-      go true e = ap (λ (x : Node). ways_of x.successors) (t.holds n (ltb-true n 1024 e))
+      go true e = at n (ltb-true n 1024 e)
       go false e =
-          let l = t.size in
           let h = ltb-false n 1024 e in
           ap (λ (x : Node). ways_of x.successors) (get_or-eq_default nodes no_node (omega arith))
 
@@ -168,6 +170,7 @@ module _ (image : List ℕ) (nodes : List Node) (t : Tabled no_node nodes (λ i.
           and_from (is_save (role_in (instruction_at image s))) (get_or reached s false) (ap is_save q.1) ((tells s h).1 (of_net s q.0)),
     )
 
+    -- the slots after saves that are reached are the starts
     pub begins_told : (starts : List Bool) → Tabled false starts (started_by image reached) 1024 → Tells starts (Begins image)
     begins_told starts u n h = (there, back)
       where
@@ -185,3 +188,7 @@ module _ (image : List ℕ) (nodes : List Node) (t : Tabled no_node nodes (λ i.
         back (inr (s, r, role, e)) =
             let same : n - 1 ≡ s = omega arith in
             u.holds n h ∙ or_right (eqb n 0) (saved_at image reached (n - 1)) (ap (saved_at image reached) same ∙ (saved s (omega arith)).1 (r, role))
+
+pub way_table_ways : (image : List ℕ) (nodes : List Node) → Tabled no_node nodes (λ i. way_node i (instruction_at image i)) 1024
+    → (n : ℕ) → n < 1024 → (tabled nodes).ways n ≡ ways_of (way_node n (instruction_at image n)).successors
+way_table_ways image nodes t n lt = ap (λ (x : Node). ways_of x.successors) (t.holds n lt)

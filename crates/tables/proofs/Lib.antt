@@ -1,2 +1,3 @@
+pub mod Charting
 pub mod Describing
 pub mod Tabling

@@ -1,3 +1,4 @@
+pub mod Chart
 pub mod Node
 pub mod Start
 pub mod Walk

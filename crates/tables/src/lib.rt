@@ -2,6 +2,7 @@
 // path values go over.
 #![tactic(auto)]
 
+pub mod chart;
 mod node;
 pub mod start;
 mod table;

@@ -1,0 +1,155 @@
+-- The chart of an image, made slot by slot.
+use Rattle.std.proofs.Common.{◌≡◌, ℕ, ◌+◌, ◌-◌, ◌/◌, ◌<◌, ◌≤◌, ◌&&◌, ◌||◌, eqb, min, Bool, false, List, [], length, get_or, set, replicate, Some, None, Option, sym, refl, ap, ◌∙◌, subst, ⊎_elim, arith}
+use Rattle.std.proofs.lemmas.Grind.{common_steps}
+use Rattle.std.proofs.lemmas.Bool.{cases_eq, cases_lt}
+use Rattle.isa.specs.declared.instruction.Instruction.{Instruction}
+use Rattle.isa.specs.Image.{instruction_at}
+use Rattle.isa.specs.Slot.{slot_count}
+use Rattle.isa.specs.Lawful.{Lawful}
+use Rattle.pricing.specs.Model.{Model}
+use Rattle.paths.specs.declared.node.Node.{Node}
+use lib.ListN.{get_or-eq_default}
+use Rattle.paths.specs.Net.{ways_of, no_node, node_at, tabled, Described}
+use Rattle.walks.specs.Graph.{net_of}
+use Rattle.walks.specs.ImageGraph.{role_in, graph_of}
+use Rattle.walks.specs.Certified.{is_save}
+use Rattle.tables.specs.Node.{Tabled}
+use Rattle.tables.specs.Start.{way_node, started_by}
+use Rattle.tables.specs.Walk.{walk_node}
+use Rattle.tables.specs.Chart.{opened_at, closed, charted_at, started_after}
+use Rattle.tables.proofs.Describing.{slots_small, described_at}
+
+-- past its end an image has no instruction
+pub absent : (image : List ℕ) (k : ℕ) → min (length image) 8192 / 8 ≤ k → k < 1024 → instruction_at image k ≡ None
+absent image k h lt = grind arith
+
+module _ (m : Model) (image : List ℕ) where
+  -- the slots below i have their nodes
+  pub record Opening (nodes : List Node) (saves : List Bool) (i : ℕ) : Type 0 where
+    pub sized : length nodes ≡ 1024
+    pub sized_saves : length saves ≡ 1024
+    pub node : (k : ℕ) → k < i → node_at nodes k ≡ opened_at m k (instruction_at image k)
+    pub no_node_yet : (k : ℕ) → i ≤ k → node_at nodes k ≡ no_node
+    pub save : (k : ℕ) → k < i → get_or saves k false ≡ is_save (role_in (instruction_at image k))
+    pub no_save_yet : (k : ℕ) → i ≤ k → get_or saves k false ≡ false
+
+  pub opening : {nodes : List Node} {saves : List Bool} → nodes ≡ replicate 1024 no_node → saves ≡ replicate 1024 false → Opening nodes saves 0
+  opening {nodes} {saves} e f = go 1024 refl e f
+    where
+      go : (k : ℕ) → k ≡ 1024 → nodes ≡ replicate k no_node → saves ≡ replicate k false → Opening nodes saves 0
+      go k is e f = record {
+        sized = grind (arith, common_steps);
+        sized_saves = grind (arith, common_steps);
+        node = λ j lt. absurd (omega arith);
+        no_node_yet = λ j h. grind (arith, common_steps);
+        save = λ j lt. absurd (omega arith);
+        no_save_yet = λ j h. grind (arith, common_steps);
+      }
+
+  module _ {nodes : List Node} {saves : List Bool} {i : ℕ} (O : Opening nodes saves i) where
+    pub opens : i < 1024 → Opening (set nodes i (opened_at m i (instruction_at image i))) (set saves i (is_save (role_in (instruction_at image i)))) (i + 1)
+    opens lt = record {
+      sized = grind (arith, common_steps, O.sized);
+      sized_saves = grind (arith, common_steps, O.sized_saves);
+      node = λ k below. ⊎_elim
+          (λ (is : k ≡ i).
+          let e : node_at (set nodes i (opened_at m i (instruction_at image i))) i ≡ opened_at m i (instruction_at image i) =
+          grind (arith, common_steps, O.sized) in
+          subst (λ (j : ℕ). node_at (set nodes i (opened_at m i (instruction_at image i))) j ≡ opened_at m j (instruction_at image j)) (sym is) e)
+          (λ (ne : k ≡ i → ⊥).
+          let e : node_at (set nodes i (opened_at m i (instruction_at image i))) k ≡ node_at nodes k = grind (arith, common_steps) in
+          e ∙ O.node k (omega arith))
+          (cases_eq k i);
+      no_node_yet = λ k h.
+          let e : node_at (set nodes i (opened_at m i (instruction_at image i))) k ≡ node_at nodes k = grind (arith, common_steps) in
+          e ∙ O.no_node_yet k (omega arith);
+      save = λ k below. ⊎_elim
+          (λ (is : k ≡ i).
+          let e : get_or (set saves i (is_save (role_in (instruction_at image i)))) i false ≡ is_save (role_in (instruction_at image i)) =
+          grind (arith, common_steps, O.sized_saves) in
+          subst (λ (j : ℕ). get_or (set saves i (is_save (role_in (instruction_at image i)))) j false ≡ is_save (role_in (instruction_at image j))) (sym is) e)
+          (λ (ne : k ≡ i → ⊥).
+          let e : get_or (set saves i (is_save (role_in (instruction_at image i)))) k false ≡ get_or saves k false = grind (arith, common_steps) in
+          e ∙ O.save k (omega arith))
+          (cases_eq k i);
+      no_save_yet = λ k h.
+          let e : get_or (set saves i (is_save (role_in (instruction_at image i)))) k false ≡ get_or saves k false = grind (arith, common_steps) in
+          e ∙ O.no_save_yet k (omega arith);
+    }
+
+    pub opened_nodes : min (length image) 8192 / 8 ≤ i → Tabled no_node nodes (λ k. opened_at m k (instruction_at image k)) 1024
+    opened_nodes end = record {
+      size = O.sized;
+      holds = λ k lt. ⊎_elim
+          (λ (h : k < i). O.node k h)
+          (λ (h : i ≤ k). O.no_node_yet k h ∙ sym (ap (opened_at m k) (absent image k (omega arith) lt)))
+          (cases_lt k i);
+    }
+
+    pub opened_saves : min (length image) 8192 / 8 ≤ i → Tabled false saves (λ k. is_save (role_in (instruction_at image k))) 1024
+    opened_saves end = record {
+      size = O.sized_saves;
+      holds = λ k lt. ⊎_elim
+          (λ (h : k < i). O.save k h)
+          (λ (h : i ≤ k). O.no_save_yet k h ∙ sym (ap (λ (o : Option Instruction). is_save (role_in o)) (absent image k (omega arith) lt)))
+          (cases_lt k i);
+    }
+
+-- the nodes below i are closed where they are saves
+pub record Closing (before : List Node) (saves : List Bool) (nodes : List Node) (i : ℕ) : Type 0 where
+  pub sized : length nodes ≡ length before
+  pub node : (k : ℕ) → k < i → node_at nodes k ≡ closed (get_or saves k false) (node_at before k)
+  pub same : (k : ℕ) → i ≤ k → node_at nodes k ≡ node_at before k
+
+-- a slot that is closed where it is a save is as walks go along it
+pub closed_charted : (m : Model) (i : ℕ) (o : Option Instruction) → closed (is_save (role_in o)) (opened_at m i o) ≡ charted_at m i o
+closed_charted m i o = grind arith
+
+pub charted : (m : Model) (image : List ℕ) {opened nodes : List Node} {saves : List Bool} → length nodes ≡ 1024
+    → Tabled no_node opened (λ i. opened_at m i (instruction_at image i)) 1024
+    → Tabled false saves (λ i. is_save (role_in (instruction_at image i))) 1024
+    → ((k : ℕ) → k < 1024 → node_at nodes k ≡ closed (get_or saves k false) (node_at opened k))
+    → Tabled no_node nodes (λ i. charted_at m i (instruction_at image i)) 1024
+charted m image {opened} size o s c = record {
+  size = size;
+  holds = λ k lt.
+      c k lt ∙ ap (λ (b : Bool). closed b (node_at opened k)) (s.holds k lt) ∙ ap (closed (is_save (role_in (instruction_at image k)))) (o.holds k lt)
+      ∙ closed_charted m k (instruction_at image k);
+}
+
+-- the slot after a save that is reached
+pub started_charted : (image : List ℕ) (saves reached : List Bool) → Tabled false saves (λ i. is_save (role_in (instruction_at image i))) 1024
+    → (starts : List Bool) → Tabled false starts (started_after saves reached) 1024 → Tabled false starts (started_by image reached) 1024
+started_charted image saves reached s starts t = record {
+  size = t.size;
+  holds = λ k lt.
+      t.holds k lt ∙ ap (λ (b : Bool). eqb k 0 || (b && get_or reached (k - 1) false)) (s.holds (k - 1) (omega arith));
+}
+
+-- the ways out of an opened slot
+pub opened_ways : (m : Model) (image : List ℕ) (nodes : List Node) → Tabled no_node nodes (λ i. opened_at m i (instruction_at image i)) 1024
+    → (n : ℕ) → n < 1024 → (tabled nodes).ways n ≡ ways_of (way_node n (instruction_at image n)).successors
+opened_ways m image nodes t n lt = ap (λ (x : Node). ways_of x.successors) (t.holds n lt) ∙ go (instruction_at image n)
+  where
+    go : (o : Option Instruction) → ways_of (opened_at m n o).successors ≡ ways_of (way_node n o).successors
+    go None = refl
+    go (Some x) = refl
+
+-- the chart of a lawful image says what its graph says
+module _ (m : Model) (image : List ℕ) (lawful : Lawful image) (nodes : List Node)
+    (t : Tabled no_node nodes (λ i. charted_at m i (instruction_at image i)) 1024) where
+  pub chart_described : (n : ℕ) → n < slot_count image → Described nodes (net_of (graph_of m image)) n
+  chart_described n h =
+      let small = slots_small image lawful in
+      let legal = lawful.legal n h in
+      let e : node_at nodes n ≡ walk_node m n (instruction_at image n) =
+      t.holds n (omega arith) ∙ ap (charted_at m n) legal.1 ∙ sym (ap (walk_node m n) legal.1) in
+      described_at m image lawful nodes n e
+
+  pub chart_ends : (n : ℕ) → slot_count image ≤ n → (tabled nodes).ways n ≡ []
+  chart_ends n h =
+      let s = lawful.sized in
+      ⊎_elim
+      (λ (lt : n < 1024). ap (λ (x : Node). ways_of x.successors) (t.holds n lt ∙ ap (charted_at m n) (absent image n (grind arith) lt)))
+      (λ (le : 1024 ≤ n). let l = t.size in ap (λ (x : Node). ways_of x.successors) (get_or-eq_default nodes no_node (omega arith)))
+      (cases_lt n 1024)

@@ -1,0 +1,104 @@
+// The chart of an image: its nodes and its starts, each slot decoded once.
+ghost use Rattle.std.specs.Prelude.{◌≡◌, ℕ, ◌<◌, false, length, replicate, slice_index_or};
+ghost use Rattle.isa.specs.Image.{instruction_at};
+ghost use Rattle.isa.specs.Lawful.{Lawful};
+ghost use Rattle.paths.specs.Net.{no_node};
+ghost use Rattle.walks.specs.ImageGraph.{graph_of, role_in};
+ghost use Rattle.walks.specs.Certified.{is_save};
+ghost use Rattle.search.specs.Reach.{Tells};
+ghost use Rattle.tables.specs.Node.{Tabled};
+ghost use Rattle.tables.specs.Start.{Begins};
+ghost use Rattle.tables.specs.Chart.{opened_at, closed, started_after, charted_at, ChartOf};
+
+use crate::node::successors_of;
+use crate::table::table_of;
+use isa::image::instruction_at;
+use isa::instruction::{Instruction, Role};
+use paths::node::{Node, Successors};
+use pricing::model::PriceModel;
+use search::reach::reach_from;
+use walks::image_graph::price_of;
+
+#[derive(Clone, Copy)]
+pub struct Chart {
+    // Stays: one for each of the device's 1,024 slots, and a library has no heap.
+    pub nodes: [Node; 1024],
+    pub starts: [bool; 1024],
+}
+
+// A slot with all its ways out, and its price; no node where it has no legal
+// instruction.
+fn opened_at<M: PriceModel>(model: &M, at: u16, there: Option<Instruction>) -> Node
+    ensures { result ≡ opened_at (M.PriceModel.means model.now) at there }
+{
+    there.map_or(
+        Node::default(),
+        |instruction| Node {
+            slot: at,
+            price: price_of(model, instruction),
+            successors: successors_of(instruction),
+        },
+    )
+}
+
+fn is_save(there: Option<Instruction>) -> bool
+    ensures { result ≡ is_save (role_in there) }
+{
+    there.is_some_and(|instruction| instruction.role() == Role::Save)
+}
+
+// Gives each slot its node, and tells whether it is a save.
+fn open<M: PriceModel>(image: &[u8], model: &M, nodes: &mut [Node; 1024], saves: &mut [bool; 1024])
+    requires nodes { nodes.old ≡ replicate 1024 no_node }
+    requires saves { saves.old ≡ replicate 1024 false }
+    ensures nodes { Tabled no_node nodes.new (λ i. opened_at (M.PriceModel.means model.now) i (instruction_at image.now i)) 1024 }
+    ensures saves { Tabled false saves.new (λ i. is_save (role_in (instruction_at image.now i))) 1024 }
+{
+    for at in 0..image.len().min(8192) / 8 {
+        let there = instruction_at(image, at as u16);
+        nodes[at] = opened_at(model, at as u16, there);
+        saves[at] = is_save(there);
+    }
+}
+
+// Ends the walks at the saves.
+fn close(nodes: &mut [Node; 1024], saves: &[bool; 1024])
+    ensures { (k : ℕ) → k < 1024 → slice_index_or nodes.new k no_node ≡ closed (slice_index_or saves.now k false) (slice_index_or nodes.old k no_node) }
+{
+    for (at, &save) in saves.iter().enumerate() {
+        if save {
+            nodes[at].successors = Successors::End;
+        }
+    }
+}
+
+fn is_start(saves: &[bool; 1024], reached: &[bool; 1024], at: u16) -> bool
+    requires { at < 1024 }
+    ensures { result ≡ started_after saves.now reached.now at }
+{
+    at == 0 || saves[at as usize - 1] && reached[at as usize - 1]
+}
+
+// Slot 0, and the slot after each save that is reached.
+fn start_table(saves: &[bool; 1024], reached: &[bool; 1024]) -> [bool; 1024]
+    ensures { Tabled false result (started_after saves.now reached.now) 1024 }
+{
+    table_of(|at| is_start(saves, reached, at))
+}
+
+impl Chart {
+    // The nodes as walks go along them, and the slots that walks start from.
+    pub fn of<M: PriceModel>(image: &[u8], model: &M) -> Chart
+        ensures nodes { Tabled no_node result.nodes (λ i. charted_at (M.PriceModel.means model.now) i (instruction_at image.now i)) 1024 }
+        ensures size { length result.starts ≡ 1024 }
+        ensures starts { Tells result.starts (Begins image.now) }
+        ensures lawful { Lawful image.now → ChartOf (graph_of (M.PriceModel.means model.now) image.now) result.nodes result.starts }
+    {
+        let mut nodes = [Node::default(); 1024];
+        let mut saves = [false; 1024];
+        open(image, model, &mut nodes, &mut saves);
+        let starts = start_table(&saves, &reach_from(&nodes, 0));
+        close(&mut nodes, &saves);
+        Chart { nodes, starts }
+    }
+}

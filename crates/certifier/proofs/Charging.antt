@@ -1,5 +1,6 @@
 -- The first start over budget, found start by start.
-use Rattle.std.proofs.Common.{◌≡◌, ℕ, ◌+◌, ◌<◌, Bool, false, List, get_or, Some, None, Ok, Err, Option, Result, sym, ap, ◌∙◌}
+use Rattle.std.proofs.Common.{◌≡◌, ℕ, zero, suc, ◌+◌, ◌-◌, ◌<◌, ◌≤◌, Bool, false, List, length, get_or, Some, None, Ok, Err, Option, Result, sym, ap, ◌∙◌, subst, arith}
+use lib.ListN.{get_or-eq_default}
 use Rattle.isa.specs.declared.refusal.Refusal.{Refusal}
 use Rattle.isa.specs.First.{first_below}
 use Rattle.isa.specs.Refusal.{ok_unless}
@@ -27,5 +28,16 @@ module _ {V : Type 0} (price : V → ℕ) (d : V) (worths : List V) (starts : Li
     pub charge_more : found ≡ None → first_below at (i + 1) ≡ None
     charge_more e = none_more at i before (here ∙ e)
 
-  pub charge_done : (i : ℕ) → i ≡ 1024 → first_below at i ≡ None → Ok tt ≡ answer (first_below at 1024)
-  charge_done i e before = sym (ap answer (ap (first_below at) (sym e) ∙ before))
+  -- past their end there are no starts
+  no_more : (k i : ℕ) → length starts ≤ i → first_below at i ≡ None → first_below at (i + k) ≡ None
+  no_more zero i end before = let same : i ≡ i + zero = omega arith in subst (λ (n : ℕ). first_below at n ≡ None) same before
+  no_more (suc k) i end before =
+      let none : get_or starts i false ≡ false = get_or-eq_default starts false end in
+      let here : at i ≡ None = ap (λ (b : Bool). over_by b (price (get_or worths i d)) budget i) none in
+      let same : i + 1 + k ≡ i + suc k = omega arith in
+      subst (λ (n : ℕ). first_below at n ≡ None) same (no_more k (i + 1) (omega arith) (none_more at i before here))
+
+  pub charge_done : (i : ℕ) → length starts ≤ i → i ≤ 1024 → first_below at i ≡ None → Ok tt ≡ answer (first_below at 1024)
+  charge_done i end few before =
+      let whole : i + (1024 - i) ≡ 1024 = omega arith in
+      sym (ap answer (subst (λ (n : ℕ). first_below at n ≡ None) whole (no_more (1024 - i) i end before)))

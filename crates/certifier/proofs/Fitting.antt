@@ -1,15 +1,18 @@
 -- The tables of a lawful image are tables of its graph, and what a search and a judgement over tables of a graph say of acceptance.
-use Rattle.std.proofs.Common.{◌≡◌, ℕ, ◌*◌, ◌<◌, Bool, true, false, List, length, is_ok, Result, sym, refl, ap, ◌∙◌, ⊎_elim, arith}
-use Rattle.std.proofs.lemmas.Bool.{cases_Bool}
+use Rattle.std.proofs.Common.{◌≡◌, ℕ, ◌*◌, ◌<◌, ◌≤◌, ◌↔◌, Bool, true, false, List, length, take, get_or, is_ok, Result, sym, refl, ap, ◌∙◌, ⊎_elim, true≢false, arith}
+use mathlib.Core.Path.{subst⁻¹}
+use Rattle.std.proofs.lemmas.Grind.{common_steps}
+use Rattle.std.proofs.lemmas.Bool.{cases_Bool, cases_lt}
 use Rattle.isa.specs.Lawful.{Lawful}
+use Rattle.isa.specs.Slot.{slot_count}
 use Rattle.isa.specs.declared.refusal.Refusal.{Refusal}
 use Rattle.pricing.specs.Model.{Model, Bounded}
 use Rattle.paths.specs.declared.node.Node.{Node}
 use Rattle.paths.specs.declared.price.Price.{Price}
-use Rattle.paths.specs.Net.{tabled, Described}
+use Rattle.paths.specs.Net.{tabled}
 use Rattle.paths.specs.Price.{price_kind, Saturates}
 use Rattle.paths.proofs.KindLaws.{price_laws}
-use Rattle.walks.specs.Graph.{Graph, net_of}
+use Rattle.walks.specs.Graph.{Graph}
 use Rattle.walks.specs.Walk.{Start}
 use Rattle.walks.specs.Acceptance.{Answer, accepted}
 use Rattle.walks.specs.Certified.{certified}
@@ -18,8 +21,10 @@ use Rattle.walks.specs.Placing.{is_accepted}
 use Rattle.walks.proofs.Certifying.{certified_right}
 use Rattle.walks.proofs.Imaging.{lawful_small, lawful_sound}
 use Rattle.walks.proofs.TwoKinds.{worths_in}
-use Rattle.search.specs.Reach.{Looped, Tells}
+use Rattle.search.specs.Reach.{Looped}
+use Rattle.tables.specs.Chart.{ChartOf}
 use Rattle.tables.proofs.Describing.{slots_small}
+use Rattle.walks.proofs.Walking.{reach_below, start_reached}
 use Rattle.certifier.specs.Priced.{price_of_price}
 use Rattle.certifier.specs.Certify.{result_of}
 use Rattle.certifier.specs.Judge.{Judged}
@@ -27,17 +32,31 @@ use Rattle.certifier.specs.Fits.{TableOf}
 use Rattle.certifier.proofs.Judging.{judged_means}
 use Rattle.certifier.proofs.Searching.{looped_on}
 
-pub table_of_image : (m : Model) → Bounded m → (image : List ℕ) → Lawful image
-    → (nodes : List Node) → ((n : ℕ) → n < 1024 → Described nodes (net_of (graph_of m image)) n)
-    → (starts : List Bool) → Tells starts (Start (graph_of m image)) → TableOf (graph_of m image) nodes starts
-table_of_image m bounded image lawful nodes described starts told =
+start_inside : (m : Model) (image : List ℕ) → Lawful image → (n : ℕ) → Start (graph_of m image) n → n < slot_count image
+start_inside m image lawful n s =
+    let sound = lawful_sound m image lawful in reach_below (graph_of m image) sound n (start_reached (graph_of m image) sound n s)
+
+-- the starts past the image's slots are left out
+pub table_of_image : (m : Model) → Bounded m → (image : List ℕ) → Lawful image → (nodes : List Node) (starts : List Bool)
+    → ChartOf (graph_of m image) nodes starts → TableOf (graph_of m image) nodes (take (slot_count image) starts)
+table_of_image m bounded image lawful nodes starts chart =
+    let small = slots_small image lawful in
     record {
       sound = lawful_sound m image lawful;
       most = 2 * 65535;
       small = lawful_small m bounded image lawful;
-      size = slots_small image lawful;
-      described = described;
-      told = told;
+      size = small;
+      described = chart.described;
+      beyond = chart.beyond;
+      told = λ n h. ⊎_elim
+          (λ (lt : n < slot_count image).
+          let e : get_or (take (slot_count image) starts) n false ≡ get_or starts n false = grind (arith, common_steps) in
+          subst⁻¹ (λ (b : Bool). (b ≡ true) ↔ Start (graph_of m image) n) e (chart.told n h))
+          (λ (le : slot_count image ≤ n). (
+            λ e. absurd (let f : get_or (take (slot_count image) starts) n false ≡ false = grind (arith, common_steps) in true≢false (sym e ∙ f)),
+            λ s. let b = start_inside m image lawful n s in absurd (omega arith),
+          ))
+          (cases_lt n (slot_count image));
     }
 
 pub no_price : (x : Price) → x.price ≡ 0 → x ≡ price_kind.empty
@@ -57,11 +76,11 @@ module _ (g : Graph) (nodes : List Node) (starts : List Bool) (t : TableOf g nod
       let q = judged_means price_kind price_of_price g t.sound t.most t.small (worths_in price_kind price_laws price_of_price saturates g t.sound) budget old new r judged in
       ap is_ok q.2 ∙ ok_result q.0 ∙ sym (ap is_accepted ((certified_right g t.sound budget q.0).1 q.1))
 
-  pub never_looping : (n : ℕ) → length nodes ≡ 1024 → length starts ≡ 1024 → Looped (tabled nodes) starts n → false ≡ is_accepted (certified g budget)
-  never_looping n sized length-starts looped =
+  pub never_looping : (n : ℕ) → length starts ≤ 1024 → Looped (tabled nodes) starts n → false ≡ is_accepted (certified g budget)
+  never_looping n length-starts looped =
       ⊎_elim
       (λ (e : is_accepted (certified g budget) ≡ true).
       let a = (certified_right g t.sound budget accepted).0 (accepted_only (certified g budget) e) in
-      absurd (a.unlooped n (looped_on g t.sound t.size nodes sized t.described starts length-starts t.told n looped)))
+      absurd (a.unlooped n (looped_on g t.sound t.size nodes t.described t.beyond starts length-starts t.told n looped)))
       (λ (e : is_accepted (certified g budget) ≡ false). sym e)
       (cases_Bool (is_accepted (certified g budget)))

@@ -4,7 +4,7 @@ use mathlib.Core.Path.{subst⁻¹}
 use lib.ListN.{get_or-eq_default}
 use Rattle.std.proofs.lemmas.Bool.{cases_lt}
 use Rattle.paths.specs.declared.node.Node.{Node}
-use Rattle.paths.specs.Net.{In, Listed, ways_of, no_node, node_at, tabled, Described}
+use Rattle.paths.specs.Net.{In, Listed, tabled, Described}
 use Rattle.paths.specs.Fill.{OrderOf}
 use Rattle.walks.specs.Graph.{Graph, onward, net_of, Sound}
 use Rattle.walks.specs.Walk.{Reachable, next, Start}
@@ -17,22 +17,20 @@ use Rattle.search.specs.Reach.{Reaches, itself, onward as further, Reached, Lead
 use Rattle.search.specs.Order.{Sorted}
 use Rattle.search.specs.Loops.{Least}
 
-module _ (g : Graph) (sound : Sound g) (small : g.size ≤ 1024) (nodes : List Node) (sized : length nodes ≡ 1024)
-    (described : (n : ℕ) → n < 1024 → Described nodes (net_of g) n) where
+module _ (g : Graph) (sound : Sound g) (small : g.size ≤ 1024) (nodes : List Node)
+    (described : (n : ℕ) → n < g.size → Described nodes (net_of g) n) (beyond : (n : ℕ) → g.size ≤ n → (tabled nodes).ways n ≡ []) where
   node_onward : (n t : ℕ) → In t ((tabled nodes).ways n) → In t (onward g n)
   node_onward n t i =
       ⊎_elim
-      (λ (h : n < 1024). subst⁻¹ (In t) (described n h).ways i)
-      (λ (h : 1024 ≤ n).
-      let e : node_at nodes n ≡ no_node = get_or-eq_default nodes no_node (omega arith) in
-      absurd (let none : In t [] = subst (λ (x : Node). In t (ways_of x.successors)) e i in none))
-      (cases_lt n 1024)
+      (λ (h : n < g.size). subst⁻¹ (In t) (described n h).ways i)
+      (λ (h : g.size ≤ n). absurd (let none : In t [] = subst (In t) (beyond n h) i in none))
+      (cases_lt n g.size)
 
-  onward_node : (n t : ℕ) → n < 1024 → In t (onward g n) → In t ((tabled nodes).ways n)
+  onward_node : (n t : ℕ) → n < g.size → In t (onward g n) → In t ((tabled nodes).ways n)
   onward_node n t h i = subst (In t) (described n h).ways i
 
-  below : (n : ℕ) → Reachable g n → n < 1024
-  below n r = let b = reach_below g sound n r in omega arith
+  below : (n : ℕ) → Reachable g n → n < g.size
+  below n r = reach_below g sound n r
 
   reaches_on : (n t : ℕ) → Reachable g n → Reaches (tabled nodes) n t → Reachable g t
   reaches_on n t r itself = r
@@ -50,7 +48,7 @@ module _ (g : Graph) (sound : Sound g) (small : g.size ≤ 1024) (nodes : List N
       let q = leads_in n k r d in
       (next q.0 (onward_way g k t i), record { before = k; reaches = further q.1.reaches q.1.last; last = onward_node k t (below k q.0) i })
 
-  module _ (starts : List Bool) (length-starts : length starts ≡ 1024) (told : Tells starts (Start g)) where
+  module _ (starts : List Bool) (length-starts : length starts ≤ 1024) (told : Tells starts (Start g)) where
     chosen_below : (n : ℕ) → get_or starts n false ≡ true → n < 1024
     chosen_below n e =
         ⊎_elim (λ (h : n < 1024). h)
@@ -63,7 +61,7 @@ module _ (g : Graph) (sound : Sound g) (small : g.size ≤ 1024) (nodes : List N
         reaches_on r.start n (start_reached g sound r.start ((told r.start h).0 r.chosen)) r.reaches
 
     start_chosen : (n : ℕ) → Start g n → get_or starts n false ≡ true
-    start_chosen n s = (told n (below n (start_reached g sound n s))).1 s
+    start_chosen n s = let b = below n (start_reached g sound n s) in (told n (omega arith)).1 s
 
     steps_reach : (l : List ℕ) (s a n : ℕ) → Reachable g a → Reaches (tabled nodes) s a → Steps (onward g) a l n → Reaches (tabled nodes) s n
     steps_reach [] s a n r p e = subst (Reaches (tabled nodes) s) e p
@@ -102,8 +100,11 @@ module _ (g : Graph) (sound : Sound g) (small : g.size ≤ 1024) (nodes : List N
             ordered = λ p t h i.
                 let r = at_reachable p h in
                 let b = below t (next r (onward_way g (get_or order p 0) t i)) in
-                sorted.after p t h (onward_node (get_or order p 0) t (below (get_or order p 0) r) i) b;
-            starts = λ n s. let r = start_reached g sound n s in (sorted.exact n).1 (below n r, reachable_reached n r);
+                sorted.after p t h (onward_node (get_or order p 0) t (below (get_or order p 0) r) i) (omega arith);
+            starts = λ n s.
+                let r = start_reached g sound n s in
+                let b = below n r in
+                (sorted.exact n).1 (omega arith, reachable_reached n r);
           }
 
       pub order_of : (room : ℕ) → 1024 ≤ room → OrderOf nodes (net_of g) order room

@@ -20,14 +20,13 @@ use isa::refusal::Refusal;
 use paths::fill::fill;
 use pricing::model::PriceModel;
 use search::table::Table;
-use tables::start::starts_of;
-use tables::walk::walk_table;
+use tables::chart::Chart;
 
-fn price_at<V: Priced>(worths: &[V], at: u16) -> u64
+fn price_at<V: Priced>(worths: &[V], at: usize) -> u64
     requires { at < length worths.now }
     ensures { result ≡ V.Priced.price (slice_index_or worths.now at V.PathValue.kind.empty) }
 {
-    worths[at as usize].price()
+    worths[at].price()
 }
 
 fn check_start(start: bool, price: u64, budget: u64, at: u16) -> Result<(), Refusal>
@@ -40,14 +39,13 @@ fn check_start(start: bool, price: u64, budget: u64, at: u16) -> Result<(), Refu
 }
 
 // The refusal by the lowest start over budget.
-// Stays: the starts are of the device's size, and the worths are the caller's, who may be in C.
-fn charge<V: Priced>(worths: &[V], starts: &[bool; 1024], budget: u64) -> Result<(), Refusal>
-    requires { 1024 ≤ length worths.now }
+fn charge<V: Priced>(worths: &[V], starts: &[bool], budget: u64) -> Result<(), Refusal>
+    requires room { 1024 ≤ length worths.now }
+    requires few { length starts.now ≤ 1024 }
     ensures { result ≡ ok_unless (first_below (over_at V.Priced.price V.PathValue.kind.empty worths.now starts.now budget) 1024) tt }
 {
-    // Stays: the slot's number reads both lists and stands in the refusal; a zip of three is no plainer.
-    for at in 0..1024u16 {
-        check_start(starts[at as usize], price_at(worths, at), budget, at)?;
+    for (at, &start) in starts.iter().enumerate() {
+        check_start(start, price_at(worths, at), budget, at as u16)?;
     }
     Ok(())
 }
@@ -88,17 +86,17 @@ pub(crate) fn judge<V: Priced, M: PriceModel>(
     requires room { 1024 ≤ length worths.old }
     ensures { Judged V.PathValue.kind V.Priced.price (graph_of (M.PriceModel.means by.now.model.now) image.now) by.now.budget worths.old worths.new result }
 {
-    let starts = starts_of(image);
-    let nodes = walk_table(image, by.model);
+    let Chart { nodes, starts } = Chart::of(image, by.model);
+    let count = image.len() / 8;
     let table = Table {
         nodes: &nodes,
-        starts: &starts,
+        starts: &starts[..count],
     };
     let Ok(order) = table.find_order() else {
         return Err(Refusal::Loop {
             slot: lowest_loop(&table),
         });
     };
-    clear(worths, image.len() / 8);
+    clear(worths, count);
     judge_order(&table, order.as_slice(), by.budget, worths)
 }

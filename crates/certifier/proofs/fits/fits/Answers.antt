@@ -11,7 +11,7 @@ pub returns-in_default : goal.returns-in_default
 returns-in_default c g t =
     let table = c.args.table.now in
     let found : (n : ℕ) × Looped (tabled table.nodes.now) table.starts.now n = search (rules, c.in_default.ensures) in
-    never_looping g table.nodes.now table.starts.now t c.args.budget found.0 table.sized.0 table.sized.1 found.1
+    never_looping g table.nodes.now table.starts.now t c.args.budget found.0 table.sized.1 found.1
 
 pub returns : goal.returns
 returns c g t =

@@ -1,8 +1,8 @@
-use Rattle.std.proofs.Common.{refl}
+use Rattle.std.proofs.Common.{refl, take, arith}
+use Rattle.std.proofs.lemmas.Grind.{common_steps}
+use Rattle.isa.specs.Slot.{slot_count}
 use Rattle.walks.specs.ImageGraph.{graph_of}
-use Rattle.walks.proofs.Imaging.{lawful_sound}
 use Rattle.certifier.specs.Judge.{looping}
-use Rattle.tables.proofs.Describing.{slots_small}
 use Rattle.certifier.proofs.Fitting.{table_of_image}
 use Rattle.certifier.proofs.Searching.{lowest_looped}
 use Rattle.certifier.proofs.judge.judge.Goals as goal
@@ -11,10 +11,11 @@ pub returns-in_default : goal.returns-in_default
 returns-in_default g c =
     let m = g.M.PriceModel.means c.args.by.now.model.now in
     let image = c.args.image.now in
+    let t = table_of_image m (g.met.M.PriceModel.bounded c.args.by.now.model.now) image c.requires.lawful
+    c.of.result.nodes c.of.result.starts (c.of.ensures.lawful c.requires.lawful) in
     looping
-    (lowest_looped (graph_of m image) (lawful_sound m image c.requires.lawful) (slots_small image c.requires.lawful)
-    c.walk_table-nodes.result c.walk_table-nodes.ensures.table.size (c.walk_table-nodes.ensures.described c.requires.lawful)
-    c.starts_of-starts.result c.starts_of-starts.ensures.size (c.starts_of-starts.ensures.told c.requires.lawful m)
+    (lowest_looped (graph_of m image) t.sound t.size c.of.result.nodes t.described t.beyond (take (slot_count image) c.of.result.starts)
+    (let e = c.of.ensures.size in grind (arith, common_steps)) t.told
     c.lowest_loop.result c.lowest_loop.ensures) (refl {a = c.args.worths.now})
 
 pub returns : goal.returns
@@ -23,6 +24,5 @@ returns g c =
     let image = c.args.image.now in
     c.judge_order.ensures (graph_of m image)
     (table_of_image m (g.met.M.PriceModel.bounded c.args.by.now.model.now) image c.requires.lawful
-    c.walk_table-nodes.result (c.walk_table-nodes.ensures.described c.requires.lawful)
-    c.starts_of-starts.result (c.starts_of-starts.ensures.told c.requires.lawful m))
+    c.of.result.nodes c.of.result.starts (c.of.ensures.lawful c.requires.lawful))
     c.args.worths.now c.clear.auto.worths c.clear.ensures

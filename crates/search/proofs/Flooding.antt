@@ -1,12 +1,12 @@
 -- A flood: what is seen and queued, node by node, until every way out has been followed.
-use Rattle.std.proofs.Common.{◌≡◌, ℕ, ◌+◌, ◌<◌, ◌≤◌, Bool, true, false, ◌↔◌, List, [], ◌∷◌, ◌++◌, length, get_or, set, replicate, Some, Option, sym, refl, ap, ◌∙◌, subst, inl, inr, ⊎_elim, arith}
+use Rattle.std.proofs.Common.{◌≡◌, ℕ, ◌+◌, ◌<◌, ◌≤◌, Bool, true, false, ◌↔◌, List, [], ◌∷◌, ◌++◌, length, get_or, set, replicate, Some, Option, sym, refl, ap, ◌∙◌, subst, inl, inr, ⊎_elim, true≢false, arith}
 use Rattle.std.proofs.lemmas.Grind.{common_steps}
 use Rattle.std.proofs.lemmas.List.Sums.{count_by-le-length}
 use Rattle.std.proofs.lemmas.Bool.{cases_eq}
 use Rattle.paths.specs.declared.node.Node.{Node}
 use Rattle.paths.specs.Net.{Net, In, tabled}
 use Rattle.search.specs.Reach.{Reaches, itself, onward, Reached, Tells}
-use Rattle.search.specs.Ways.{Split}
+use Rattle.search.specs.Ways.{Split, within}
 use Rattle.search.specs.Flood.{is_seen, Queued, Added}
 use Rattle.search.proofs.Counting.{count_room}
 use Rattle.search.proofs.Listing.{all_listed}
@@ -150,15 +150,27 @@ told nodes {starts} {seen} {queue} {p} size F end n lt = (F.from n, λ R. all R.
         let L = F.queued.found m (all s m chosen r m_lt) in
         F.gone L.0 t (omega (arith, L.1)) (subst (λ (x : ℕ). In t ((tabled nodes).ways x)) (sym L.2) k) h
 
--- one start alone reaches what some start does
-pub reached_reaches : (nodes : List Node) (start k : ℕ) {starts : List Bool} → length nodes ≡ k → starts ≡ set (replicate k false) start true
-    → (n : ℕ) → n < k → Reached (tabled nodes) starts n ↔ Reaches (tabled nodes) start n
-reached_reaches nodes start k {starts} size one n h = (λ R. subst (λ (s : ℕ). Reaches (tabled nodes) s n) (the_start R.start R.chosen) R.reaches, begin)
+-- what a flood of one start alone sees, that start reaches
+pub reached_reaches : (nodes : List Node) (start k : ℕ) {none seen : List Bool} {queue queue' : List ℕ} {way : Option ℕ} → length nodes ≡ 1024
+    → none ≡ replicate k false → way ≡ within start → Added none seen queue queue' way
+    → (n : ℕ) → n < 1024 → Reached (tabled nodes) seen n ↔ Reaches (tabled nodes) start n
+reached_reaches nodes start k {none} {seen} size unseen one A n h = (λ R. subst (λ (s : ℕ). Reaches (tabled nodes) s n) (the_start R.start R.chosen) R.reaches, begin)
   where
-    the_start : (s : ℕ) → is_seen starts s → s ≡ start
-    the_start s chosen = grind (arith, common_steps)
+    within_is : {s : ℕ} → within start ≡ Some s → s ≡ start
+    within_is e = grind arith
 
-    begin : Reaches (tabled nodes) start n → Reached (tabled nodes) starts n
+    within_below : start < 1024 → within start ≡ Some start
+    within_below h = grind arith
+
+    the_start : (s : ℕ) → is_seen seen s → s ≡ start
+    the_start s chosen = ⊎_elim
+        (λ (z : is_seen none s).
+        let e : get_or (replicate k false) s false ≡ false = grind (arith, common_steps) in
+        absurd (true≢false (sym z ∙ ap (λ (xs : List Bool). get_or xs s false) unseen ∙ e)))
+        (λ e. within_is (sym one ∙ e))
+        (A.new s chosen)
+
+    begin : Reaches (tabled nodes) start n → Reached (tabled nodes) seen n
     begin r =
-        let b = reaches_below nodes start n r (omega arith) in
-        record { start = start; chosen = grind (arith, common_steps); reaches = r }
+        let b : start < 1024 = omega (arith, reaches_below nodes start n r (omega arith)) in
+        record { start = start; chosen = A.there start (one ∙ within_below b); reaches = r }

@@ -1,12 +1,12 @@
 // The nodes that starts reach, found breadth first.
-ghost use Rattle.std.specs.Prelude.{◌≡◌, ℕ, ◌<◌, true, false, [], replicate, Some, slice_set};
+ghost use Rattle.std.specs.Prelude.{◌≡◌, ℕ, ◌<◌, false, [], replicate, Some};
 ghost use Rattle.paths.specs.Net.{tabled};
 ghost use Rattle.search.specs.Reach.{Reaches, Reached, Tells};
 ghost use Rattle.search.specs.Flood.{Queued, Added};
 
 use crate::NODES;
 use crate::table::Table;
-use crate::ways::ways_within;
+use crate::ways::{ways_within, within};
 use arrayvec::ArrayVec;
 use paths::node::Node;
 
@@ -46,34 +46,23 @@ impl Flood {
     }
 }
 
-// The starts where there is one alone, or none where that is past the end.
-fn only(start: u16) -> [bool; 1024]
-    ensures { result ≡ slice_set (replicate 1024 false) start true }
+// Follows the ways out of every node seen.
+fn spread(nodes: &[Node; 1024], flood: &mut Flood)
+    requires { Queued flood.old.seen flood.old.queue.items }
+    ensures { Tells flood.new.seen (Reached (tabled nodes.now) flood.old.seen) }
 {
-    let mut starts = [false; 1024];
-    if start < NODES {
-        starts[start as usize] = true;
+    // Stays: the queue grows as it is read, so no iterator can hold it.
+    for next in 0..NODES as usize {
+        let Some(&node) = flood.queue.get(next) else {
+            break;
+        };
+        let (first, second) = ways_within(nodes[node as usize].successors);
+        flood.add(first);
+        flood.add(second);
     }
-    starts
 }
 
 impl Table<'_> {
-    // Follows the ways out of every node seen.
-    fn spread(&self, flood: &mut Flood)
-        requires { Queued flood.old.seen flood.old.queue.items }
-        ensures { Tells flood.new.seen (Reached (tabled self.now.nodes.now) flood.old.seen) }
-    {
-        // Stays: the queue grows as it is read, so no iterator can hold it.
-        for next in 0..NODES as usize {
-            let Some(&node) = flood.queue.get(next) else {
-                break;
-            };
-            let (first, second) = ways_within(self.nodes[node as usize].successors);
-            flood.add(first);
-            flood.add(second);
-        }
-    }
-
     // Tells of each node whether some start reaches it.
     pub fn reach(&self) -> [bool; 1024]
         ensures { Tells result (Reached (tabled self.now.nodes.now) self.now.starts.now) }
@@ -85,7 +74,7 @@ impl Table<'_> {
                 flood.add(Some(start as u16));
             }
         }
-        self.spread(&mut flood);
+        spread(self.nodes, &mut flood);
         flood.seen
     }
 }
@@ -94,6 +83,8 @@ impl Table<'_> {
 pub fn reach_from(nodes: &[Node; 1024], start: u16) -> [bool; 1024]
     ensures { Tells result (Reaches (tabled nodes.now) start) }
 {
-    let starts = &only(start);
-    Table { nodes, starts }.reach()
+    let mut flood = Flood::new();
+    flood.add(within(start));
+    spread(nodes, &mut flood);
+    flood.seen
 }

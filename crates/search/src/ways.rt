@@ -6,7 +6,7 @@ ghost use Rattle.search.specs.Ways.{Split, within};
 use crate::NODES;
 use paths::node::Successors;
 
-fn within(node: u16) -> Option<u16>
+pub(crate) fn within(node: u16) -> Option<u16>
     ensures { result ≡ within node }
 {
     (node < NODES).then_some(node)

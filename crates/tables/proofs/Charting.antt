@@ -1,7 +1,7 @@
 -- The chart of an image, made slot by slot.
-use Rattle.std.proofs.Common.{◌≡◌, ℕ, ◌+◌, ◌-◌, ◌/◌, ◌<◌, ◌≤◌, ◌&&◌, ◌||◌, eqb, min, Bool, false, List, [], length, get_or, set, replicate, Some, None, Option, sym, refl, ap, ◌∙◌, subst, ⊎_elim, arith}
+use Rattle.std.proofs.Common.{◌≡◌, true, ℕ, zero, suc, ◌+◌, ◌-◌, ◌/◌, ◌<◌, ◌≤◌, ◌&&◌, ◌||◌, eqb, min, Bool, false, List, [], length, take, get_or, set, replicate, Some, None, Option, sym, refl, ap, ◌∙◌, subst, ⊎_elim, arith}
 use Rattle.std.proofs.lemmas.Grind.{common_steps}
-use Rattle.std.proofs.lemmas.Bool.{cases_eq, cases_lt}
+use Rattle.std.proofs.lemmas.Bool.{cases_eq, cases_lt, ne_eqb}
 use Rattle.isa.specs.declared.instruction.Instruction.{Instruction}
 use Rattle.isa.specs.Image.{instruction_at}
 use Rattle.isa.specs.Slot.{slot_count}
@@ -105,25 +105,41 @@ pub record Closing (before : List Node) (saves : List Bool) (nodes : List Node) 
 pub closed_charted : (m : Model) (i : ℕ) (o : Option Instruction) → closed (is_save (role_in o)) (opened_at m i o) ≡ charted_at m i o
 closed_charted m i o = grind arith
 
-pub charted : (m : Model) (image : List ℕ) {opened nodes : List Node} {saves : List Bool} → length nodes ≡ 1024
+-- which slots are saves, told by a list that may end with the image
+abbrev SavesIn : List ℕ → List Bool → Type 0
+SavesIn image saves = (k : ℕ) → k < 1024 → get_or saves k false ≡ is_save (role_in (instruction_at image k))
+
+pub saves_in : (image : List ℕ) (saves : List Bool) (count : ℕ) → count ≡ min (length image) 8192 / 8
+    → Tabled false saves (λ i. is_save (role_in (instruction_at image i))) 1024 → SavesIn image (take count saves)
+saves_in image saves count all t k lt =
+    ⊎_elim
+    (λ (h : k < count).
+    let e : get_or (take count saves) k false ≡ get_or saves k false = grind (arith, common_steps) in
+    e ∙ t.holds k lt)
+    (λ (h : count ≤ k).
+    let e : get_or (take count saves) k false ≡ false = grind (arith, common_steps) in
+    e ∙ sym (ap (λ (o : Option Instruction). is_save (role_in o)) (absent image k (omega (arith, h, all)) lt)))
+    (cases_lt k count)
+
+pub charted : (m : Model) (image : List ℕ) {opened nodes : List Node} (saves : List Bool) → length nodes ≡ 1024
     → Tabled no_node opened (λ i. opened_at m i (instruction_at image i)) 1024
-    → Tabled false saves (λ i. is_save (role_in (instruction_at image i))) 1024
+    → SavesIn image saves
     → ((k : ℕ) → k < 1024 → node_at nodes k ≡ closed (get_or saves k false) (node_at opened k))
     → Tabled no_node nodes (λ i. charted_at m i (instruction_at image i)) 1024
-charted m image {opened} size o s c = record {
+charted m image {opened} saves size o s c = record {
   size = size;
   holds = λ k lt.
-      c k lt ∙ ap (λ (b : Bool). closed b (node_at opened k)) (s.holds k lt) ∙ ap (closed (is_save (role_in (instruction_at image k)))) (o.holds k lt)
+      c k lt ∙ ap (λ (b : Bool). closed b (node_at opened k)) (s k lt) ∙ ap (closed (is_save (role_in (instruction_at image k)))) (o.holds k lt)
       ∙ closed_charted m k (instruction_at image k);
 }
 
 -- the slot after a save that is reached
-pub started_charted : (image : List ℕ) (saves reached : List Bool) → Tabled false saves (λ i. is_save (role_in (instruction_at image i))) 1024
+pub started_charted : (image : List ℕ) (saves reached : List Bool) → SavesIn image saves
     → (starts : List Bool) → Tabled false starts (started_after saves reached) 1024 → Tabled false starts (started_by image reached) 1024
 started_charted image saves reached s starts t = record {
   size = t.size;
   holds = λ k lt.
-      t.holds k lt ∙ ap (λ (b : Bool). eqb k 0 || (b && get_or reached (k - 1) false)) (s.holds (k - 1) (omega arith));
+      t.holds k lt ∙ ap (λ (b : Bool). eqb k 0 || (b && get_or reached (k - 1) false)) (s (k - 1) (omega arith));
 }
 
 -- the ways out of an opened slot
@@ -153,3 +169,44 @@ module _ (m : Model) (image : List ℕ) (lawful : Lawful image) (nodes : List No
       (λ (lt : n < 1024). ap (λ (x : Node). ways_of x.successors) (t.holds n lt ∙ ap (charted_at m n) (absent image n (grind arith) lt)))
       (λ (le : 1024 ≤ n). let l = t.size in ap (λ (x : Node). ways_of x.successors) (get_or-eq_default nodes no_node (omega arith)))
       (cases_lt n 1024)
+
+-- the starts after the saves below i
+pub record Starting (saves reached starts : List Bool) (i : ℕ) : Type 0 where
+  pub sized : length starts ≡ 1024
+  pub first : get_or starts 0 false ≡ true
+  pub after : (k : ℕ) → k < i → k + 1 < 1024 → get_or starts (k + 1) false ≡ (get_or saves k false && get_or reached k false)
+  pub no_start_yet : (k : ℕ) → i ≤ k → get_or starts (k + 1) false ≡ false
+
+pub starting : (saves reached : List Bool) → Starting saves reached (set (replicate 1024 false) 0 true) 0
+starting saves reached = go 1024 refl
+  where
+    go : (n : ℕ) → n ≡ 1024 → Starting saves reached (set (replicate n false) 0 true) 0
+    go n is = record {
+      sized = grind (arith, common_steps);
+      first = grind (arith, common_steps);
+      after = λ k h lt. absurd (omega arith);
+      no_start_yet = λ k h. grind (arith, common_steps);
+    }
+
+after_next : (saves reached : List Bool) (k : ℕ) → started_after saves reached (suc k) ≡ (get_or saves k false && get_or reached k false)
+after_next saves reached k =
+    let less : suc k - 1 ≡ k = omega arith in
+    ap (λ (b : Bool). b || (get_or saves (suc k - 1) false && get_or reached (suc k - 1) false)) (ne_eqb (suc k) 0 (λ e. omega arith))
+    ∙ ap (λ (n : ℕ). get_or saves n false && get_or reached n false) less
+
+pub all_started : {saves reached starts : List Bool} {i : ℕ} → Starting saves reached starts i → length saves ≤ i
+    → Tabled false starts (started_after saves reached) 1024
+all_started {saves} {reached} {starts} {i} S end = record { size = S.sized; holds = holds }
+  where
+    holds : (k : ℕ) → k < 1024 → get_or starts k false ≡ started_after saves reached k
+    holds zero lt = S.first
+    holds (suc k) lt =
+        let next : k + 1 ≡ suc k = omega arith in
+        subst (λ (n : ℕ). get_or starts n false ≡ (get_or saves k false && get_or reached k false)) next
+        (⊎_elim
+        (λ (h : k < i). S.after k h (omega (arith, lt)))
+        (λ (h : i ≤ k).
+        let none : get_or saves k false ≡ false = grind (arith, common_steps) in
+        S.no_start_yet k h ∙ sym (ap (λ (b : Bool). b && get_or reached k false) none))
+        (cases_lt k i))
+        ∙ sym (after_next saves reached k)

@@ -1,5 +1,5 @@
 // The chart of an image: its nodes and its starts, each slot decoded once.
-ghost use Rattle.std.specs.Prelude.{◌≡◌, ℕ, ◌<◌, false, length, replicate, slice_index_or};
+ghost use Rattle.std.specs.Prelude.{◌≡◌, ℕ, ◌<◌, ◌≤◌, false, length, replicate, slice_index_or};
 ghost use Rattle.isa.specs.Image.{instruction_at};
 ghost use Rattle.isa.specs.Lawful.{Lawful};
 ghost use Rattle.paths.specs.Net.{no_node};
@@ -11,7 +11,6 @@ ghost use Rattle.tables.specs.Start.{Begins};
 ghost use Rattle.tables.specs.Chart.{opened_at, closed, started_after, charted_at, ChartOf};
 
 use crate::node::successors_of;
-use crate::table::table_of;
 use isa::image::instruction_at;
 use isa::instruction::{Instruction, Role};
 use paths::node::{Node, Successors};
@@ -62,7 +61,8 @@ fn open<M: PriceModel>(image: &[u8], model: &M, nodes: &mut [Node; 1024], saves:
 }
 
 // Ends the walks at the saves.
-fn close(nodes: &mut [Node; 1024], saves: &[bool; 1024])
+fn close(nodes: &mut [Node; 1024], saves: &[bool])
+    requires { length saves.now ≤ 1024 }
     ensures { (k : ℕ) → k < 1024 → slice_index_or nodes.new k no_node ≡ closed (slice_index_or saves.now k false) (slice_index_or nodes.old k no_node) }
 {
     for (at, &save) in saves.iter().enumerate() {
@@ -72,18 +72,19 @@ fn close(nodes: &mut [Node; 1024], saves: &[bool; 1024])
     }
 }
 
-fn is_start(saves: &[bool; 1024], reached: &[bool; 1024], at: u16) -> bool
-    requires { at < 1024 }
-    ensures { result ≡ started_after saves.now reached.now at }
-{
-    at == 0 || saves[at as usize - 1] && reached[at as usize - 1]
-}
-
 // Slot 0, and the slot after each save that is reached.
-fn start_table(saves: &[bool; 1024], reached: &[bool; 1024]) -> [bool; 1024]
+fn starts_after(saves: &[bool], reached: &[bool; 1024]) -> [bool; 1024]
+    requires { length saves.now ≤ 1024 }
     ensures { Tabled false result (started_after saves.now reached.now) 1024 }
 {
-    table_of(|at| is_start(saves, reached, at))
+    let mut starts = [false; 1024];
+    starts[0] = true;
+    for (at, &save) in saves.iter().enumerate() {
+        if save && at + 1 < 1024 {
+            starts[at + 1] = reached[at];
+        }
+    }
+    starts
 }
 
 impl Chart {
@@ -97,8 +98,9 @@ impl Chart {
         let mut nodes = [Node::default(); 1024];
         let mut saves = [false; 1024];
         open(image, model, &mut nodes, &mut saves);
-        let starts = start_table(&saves, &reach_from(&nodes, 0));
-        close(&mut nodes, &saves);
+        let saves = &saves[..image.len().min(8192) / 8];
+        let starts = starts_after(saves, &reach_from(&nodes, 0));
+        close(&mut nodes, saves);
         Chart { nodes, starts }
     }
 }

@@ -1,5 +1,6 @@
+use Rattle.std.proofs.Common.{ℕ, ◌/◌, take, ap}
 use Rattle.tables.proofs.Describing.{starts_told, begins_told}
-use Rattle.tables.proofs.Charting.{charted, started_charted, opened_ways, chart_described, chart_ends}
+use Rattle.tables.proofs.Charting.{saves_in, charted, started_charted, opened_ways, chart_described, chart_ends}
 use Rattle.tables.proofs.chart.Chart.of.Goals as goal
 
 pub returns : goal.returns
@@ -7,14 +8,16 @@ returns g c =
     let m = g.M.PriceModel.means c.args.model.now in
     let image = c.args.image.now in
     let opened = c.open.new.nodes in
-    let starts = c.start_table-starts.result in
-    let nodes = charted m image c.close.array_long c.open.ensures.nodes c.open.ensures.saves c.close.ensures in
+    let starts = c.starts_after-starts.result in
+    let count = c.min.result / 8 in
+    let saves = saves_in image c.open.new.saves count (ap (λ (n : ℕ). n / 8) c.min.ensures) c.open.ensures.saves in
+    let nodes = charted m image (take count c.open.new.saves) c.close.array_long c.open.ensures.nodes saves c.close.ensures in
     let begins = begins_told image opened c.open.ensures.nodes.size (opened_ways m image opened c.open.ensures.nodes)
     c.reach_from.result c.reach_from.ensures starts
-    (started_charted image c.open.new.saves c.reach_from.result c.open.ensures.saves starts c.start_table-starts.ensures) in
+    (started_charted image (take count c.open.new.saves) c.reach_from.result saves starts c.starts_after-starts.ensures) in
     record {
       nodes = nodes;
-      size = c.start_table-starts.ensures.size;
+      size = c.starts_after-starts.ensures.size;
       starts = begins;
       lawful = λ lawful. record {
         described = chart_described m image lawful c.close.new.nodes nodes;

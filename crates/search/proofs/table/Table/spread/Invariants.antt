@@ -1,6 +1,0 @@
-use Rattle.paths.specs.Net.{tabled}
-use Rattle.search.proofs.Flooding.{Spreading}
-use Rattle.search.proofs.table.Table.spread.Given as goal
-
-abbrev pub invariant-loop-next : goal.invariant-loop-next
-invariant-loop-next l = Spreading (tabled l.self.nodes.now) l.initial.flood.seen l.flood.seen l.flood.queue.items l.next

@@ -1,7 +1,0 @@
-use Rattle.std.proofs.Common.{rules, false}
-use Rattle.tables.proofs.chart.start_table.Goals as goal
-
-pub returns : goal.returns
-returns c =
-    let t = c.table_of.ensures in
-    record { size = t.size; holds = λ k below. let p = t.holds k false below in search rules }

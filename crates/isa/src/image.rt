@@ -4,7 +4,7 @@ ghost use Rattle.isa.specs.Instruction.{Registered};
 ghost use Rattle.isa.specs.Image.{well_sized, instruction_at};
 
 use crate::instruction::Instruction;
-use crate::rule::decode;
+use crate::rule::legal_in;
 use crate::slot::slot_at;
 
 // Whether an image is 1 to 1,024 slots of eight bytes.
@@ -17,6 +17,7 @@ pub fn well_sized(image: &[u8]) -> bool
 // The legal instruction at a slot, or none: the image's size is bad, the slot
 // is absent, or it breaks a rule.
 // Stays: the caller lends an image as bytes, and the slot is an index into them.
+#[inline(always)]
 pub fn instruction_at(image: &[u8], slot: u16) -> Option<Instruction>
     ensures value { result ≡ instruction_at image.now slot }
     ensures registers { IfSome result Registered }
@@ -24,5 +25,5 @@ pub fn instruction_at(image: &[u8], slot: u16) -> Option<Instruction>
     if !well_sized(image) {
         return None;
     }
-    decode(slot_at(image, slot)?, slot).ok()
+    legal_in(slot_at(image, slot)?, slot)
 }

@@ -1,5 +1,6 @@
 // The rules on one slot, whatever stands in the others.
-ghost use Rattle.std.specs.Prelude.{◌≡◌, IfOk};
+ghost use Rattle.std.specs.Prelude.{◌≡◌, ℕ, is_none, IfOk, IfSome};
+ghost use Rattle.std.specs.Result.{result_ok};
 ghost use Rattle.isa.specs.Instruction.{Registered};
 ghost use Rattle.isa.specs.Refusal.{ok_unless};
 ghost use Rattle.isa.specs.Rule.{unused, must_be_zero, registers_exist, zeros_kept, writes_dst, frame_pointer_kept, helper_known, fault_of, decoded};
@@ -106,6 +107,38 @@ fn check_fields(kind: Kind, fields: Slot, slot: u16) -> Result<(), Refusal>
     Ok(())
 }
 
+// Whether a slot of a known kind keeps all of these rules. Each step of a run
+// asks it, so it is one match on the kind, and what stands between it and a
+// step is inlined.
+#[inline(always)]
+fn keeps_rules(kind: Kind, fields: Slot) -> bool
+    ensures { (slot : ℕ) → result ≡ is_none (fault_of kind fields slot) }
+{
+    let Slot {
+        dst,
+        src,
+        offset,
+        imm,
+        ..
+    } = fields;
+    registers_exist(fields)
+        && match kind {
+            Kind::Arithmetic(_, Operation::Neg, Source::Imm) => {
+                src == 0 && offset == 0 && imm == 0 && dst != 10
+            }
+            Kind::Arithmetic(_, _, Source::Imm) => src == 0 && offset == 0 && dst != 10,
+            Kind::Arithmetic(_, _, Source::Register) => offset == 0 && imm == 0 && dst != 10,
+            Kind::Branch(_, _, Source::Imm) => src == 0,
+            Kind::Branch(_, _, Source::Register) => imm == 0,
+            Kind::Jump => dst == 0 && src == 0 && imm == 0,
+            Kind::Call => dst == 0 && src == 0 && offset == 0 && helper_of(imm).is_some(),
+            Kind::Exit => dst == 0 && src == 0 && offset == 0 && imm == 0,
+            Kind::Load(..) => imm == 0 && dst != 10,
+            Kind::StoreImm(..) => src == 0,
+            Kind::StoreReg(..) => imm == 0,
+        }
+}
+
 // The instruction that a slot's fields say, or the first rule that they break.
 pub fn decode(fields: Slot, slot: u16) -> Result<Instruction, Refusal>
     ensures value { result ≡ decoded fields slot }
@@ -114,6 +147,23 @@ pub fn decode(fields: Slot, slot: u16) -> Result<Instruction, Refusal>
     let kind = kind_of(fields.opcode).ok_or(Refusal::IllegalOpcode { slot })?;
     check_fields(kind, fields, slot)?;
     Ok(Instruction {
+        at: slot,
+        kind,
+        fields,
+    })
+}
+
+// The instruction that a slot's fields say, or none where they break a rule.
+#[inline(always)]
+pub(crate) fn legal_in(fields: Slot, slot: u16) -> Option<Instruction>
+    ensures value { result ≡ result_ok (decoded fields slot) }
+    ensures registers { IfSome result Registered }
+{
+    let kind = kind_of(fields.opcode)?;
+    if !keeps_rules(kind, fields) {
+        return None;
+    }
+    Some(Instruction {
         at: slot,
         kind,
         fields,

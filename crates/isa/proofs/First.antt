@@ -1,5 +1,6 @@
 -- The first answer below a number: how a loop finds it, and what it means.
 use Rattle.std.proofs.Common.{◌≡◌, ℕ, zero, suc, ◌+◌, ◌<◌, ◌⊎◌, Some, None, Option, refl, ap, ◌∙◌, subst, inl, inr, ⊎_elim, add-one, arith}
+use Rattle.std.specs.Option.{option_or}
 use Rattle.std.proofs.lemmas.Bool.{cases_eq}
 use Rattle.isa.specs.First.{or_else, first_below, First}
 
@@ -12,7 +13,18 @@ module _ {A : Type 0} where
   or_some None b r some = inr (refl, some)
   or_some (Some x) b r some = inl some
 
+  pub or_same : (a b : Option A) → option_or a b ≡ or_else a b
+  or_same None b = refl
+  or_same (Some x) b = refl
+
+  pub or_nothing : (a : Option A) → or_else a None ≡ a
+  or_nothing None = refl
+  or_nothing (Some x) = refl
+
 module _ {A : Type 0} (f : ℕ → Option A) where
+  pub one_more : (i : ℕ) (a b : Option A) → a ≡ first_below f i → b ≡ f i → or_else a b ≡ first_below f (i + 1)
+  one_more i a b before here = rw add-one (ap (λ o. or_else o b) before ∙ ap (λ o. or_else (first_below f i) o) here)
+
   pub none_more : (i : ℕ) → first_below f i ≡ None → f i ≡ None → first_below f (i + 1) ≡ None
   none_more i before here = rw add-one (ap (λ o. or_else o (f i)) before ∙ here)
 

@@ -2,6 +2,7 @@
 use Rattle.std.proofs.Common.{◌≡◌, ℕ, ◌<◌, ◌≤◌, Bool, true, false, cond, List, ℤ, pos, negsuc, Some, None, Ok, Err, Option, Result, sym, refl, ap, ◌∙◌, subst, ⊎_elim}
 use Rattle.std.specs.Result.{result_err, result_ok}
 use Rattle.std.proofs.lemmas.Bool.{and_parts, and_from, ltb-true, lt-ltb, le-ltb, cond-true, cond-false, cases_Bool, cases_lt}
+use Rattle.isa.specs.declared.slot.Slot.{Slot}
 use Rattle.isa.specs.declared.instruction.Instruction.{Instruction}
 use Rattle.isa.specs.declared.refusal.Refusal.{Refusal}
 use Rattle.isa.specs.declared.refusal.Refusal.TheVariants.{Length}
@@ -48,7 +49,14 @@ from_legal : (r : Result Instruction Refusal) (x : Instruction) → result_ok r 
 from_legal (Ok y) x e = refl
 from_legal (Err r) x e = cc
 
+slot_faultless : (o : Option Slot) (i : ℕ) (x : Instruction) → legal_in o i ≡ Some x → fault_in o i ≡ None
+slot_faultless None i x e = refl
+slot_faultless (Some s) i x e = from_legal (decoded s i) x e
+
 module _ (image : List ℕ) where
+  pub faultless_at : (i : ℕ) (x : Instruction) → well_sized image ≡ true → instruction_at image i ≡ Some x → fault_at image i ≡ None
+  faultless_at i x sized e = slot_faultless (slot_at image i) i x (sym (cond-true _ _ _ sized) ∙ e)
+
   slot_there : (i : ℕ) → i < slot_count image → slot_at image i ≡ Some (fields_of image i)
   slot_there i h = cond-true _ _ _ (lt-ltb i (slot_count image) h)
 
@@ -143,7 +151,7 @@ module _ (image : List ℕ) where
     refused = λ r e. refused r (err_from (first_broken image) r e);
   }
 
-  -- the refusals as they are come upon, slot by slot
+  -- the refusal of a slot, as it is come upon
   pub slot_refused : (i : ℕ) (r : Refusal) → well_sized image ≡ true → i < slot_count image
       → first_below (fault_at image) i ≡ None → ok_unless (fault_at image i) (tt {0}) ≡ Err r → lawfulness image ≡ Err r
   slot_refused i r sized h before here =
@@ -151,16 +159,6 @@ module _ (image : List ℕ) where
       (broken_slot sized
       ∙ ap (λ o. or_else o (first_below (leaving_at image (slot_count image)) (slot_count image)))
       (some_below (fault_at image) (slot_count image) i r h before (err_from _ r here)))
-
-  pub way_refused : (i : ℕ) (r : Refusal) → well_sized image ≡ true → i < slot_count image
-      → first_below (fault_at image) (slot_count image) ≡ None
-      → first_below (leaving_at image (slot_count image)) i ≡ None
-      → ok_unless (leaving_at image (slot_count image) i) (tt {0}) ≡ Err r → lawfulness image ≡ Err r
-  way_refused i r sized h faultless before here =
-      ap (λ o. ok_unless o tt)
-      (broken_slot sized
-      ∙ ap (λ o. or_else o (first_below (leaving_at image (slot_count image)) (slot_count image))) faultless
-      ∙ some_below (leaving_at image (slot_count image)) (slot_count image) i r h before (err_from _ r here))
 
   pub judged : (a : Result (Unit {0}) Refusal) → a ≡ lawfulness image → Judged image a
   judged a e = subst (λ x. Judged image x) (sym e) judging

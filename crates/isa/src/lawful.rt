@@ -1,7 +1,7 @@
 // The lawfulness of an image.
 ghost use Rattle.std.specs.Prelude.{◌≡◌};
 ghost use Rattle.isa.specs.Refusal.{ok_unless};
-ghost use Rattle.isa.specs.Lawful.{fault_at, stays_inside, leaving_at, leaving_by, lawfulness, Judged};
+ghost use Rattle.isa.specs.Lawful.{fault_at, stays_inside, leaving_by, lawfulness, Judged};
 
 use crate::image::{instruction_at, well_sized};
 use crate::instruction::Instruction;
@@ -26,24 +26,19 @@ fn stays_inside(way: Option<i32>, count: u16) -> bool
     way.is_none_or(|slot| 0 <= slot && slot < i32::from(count))
 }
 
-fn check_ways(instruction: Instruction, count: u16) -> Result<(), Refusal>
-    ensures { result ≡ ok_unless (leaving_by instruction count) tt }
+// The refusal of an instruction with a way out that leaves an image of so many
+// slots.
+fn leaving_by(instruction: Instruction, count: u16) -> Option<Refusal>
+    ensures { result ≡ leaving_by instruction count }
 {
     let (next, target) = instruction.ways_out();
     if stays_inside(next, count) && stays_inside(target, count) {
-        Ok(())
+        None
     } else {
-        Err(Refusal::WayOut {
+        Some(Refusal::WayOut {
             slot: instruction.at,
         })
     }
-}
-
-// The rule on the ways out of one slot.
-fn check_ways_at(image: &[u8], slot: u16, count: u16) -> Result<(), Refusal>
-    ensures { result ≡ ok_unless (leaving_at image.now count slot) tt }
-{
-    instruction_at(image, slot).map_or(Ok(()), |instruction| check_ways(instruction, count))
 }
 
 // Accepts an image that keeps every rule, and refuses any other by the first
@@ -56,11 +51,13 @@ pub fn lawful(image: &[u8]) -> Result<(), Refusal>
         return Err(Refusal::Length);
     }
     let count = (image.len() / 8) as u16;
+    let mut leaving = None;
     for slot in 0..count {
-        check_slot(image, slot)?;
+        match instruction_at(image, slot) {
+            Some(instruction) => leaving = leaving.or(leaving_by(instruction, count)),
+            None => check_slot(image, slot)?,
+        }
     }
-    for slot in 0..count {
-        check_ways_at(image, slot, count)?;
-    }
-    Ok(())
+    // Ways out count only where each slot keeps the rules on it alone.
+    leaving.map_or(Ok(()), Err)
 }

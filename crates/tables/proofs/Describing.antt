@@ -121,6 +121,10 @@ module _ (m : Model) (image : List ℕ) (lawful : Lawful image) where
       let small = slots_small image lawful in
       further (reachable_reaches k r) (subst⁻¹ (In n) (way_net_there k (omega arith)) i)
 
+  pub reached_told : (reached : List Bool) → Tells reached (Reaches (way_net image) 0) → Tells reached (Reachable g)
+  reached_told reached tells n h =
+      let t = tells n h in (λ e. reaches_reachable n (t.0 e), λ r. t.1 (reachable_reaches n r))
+
   -- so the starts of any image are those of its graph, where it is lawful
   begins_start : (n : ℕ) → Begins image n ↔ Start g n
   unfolding role_at
@@ -160,34 +164,37 @@ module _ (image : List ℕ) (nodes : List Node) (size : length nodes ≡ 1024)
   of_net n itself = itself
   of_net n (further {m = k} r i) = further (of_net k r) (subst⁻¹ (In n) (same_ways k) i)
 
-  module _ (reached : List Bool) (tells : Tells reached (Reaches (tabled nodes) 0)) where
-    saved : (s : ℕ) → s < 1024 → (saved_at image reached s ≡ true) ↔ (Reaches (way_net image) 0 s × (role_in (instruction_at image s) ≡ Save))
-    saved s h = (
-      λ e.
-          let p = and_parts (is_save (role_in (instruction_at image s))) (get_or reached s false) e in
-          (to_net s ((tells s h).0 p.1), save_role (role_in (instruction_at image s)) p.0),
-      λ (q : Reaches (way_net image) 0 s × (role_in (instruction_at image s) ≡ Save)).
-          and_from (is_save (role_in (instruction_at image s))) (get_or reached s false) (ap is_save q.1) ((tells s h).1 (of_net s q.0)),
-    )
+  pub reaches_told : (reached : List Bool) → Tells reached (Reaches (tabled nodes) 0) → Tells reached (Reaches (way_net image) 0)
+  reaches_told reached tells n h =
+      let t = tells n h in (λ e. to_net n (t.0 e), λ r. t.1 (of_net n r))
 
-    -- the slots after saves that are reached are the starts
-    pub begins_told : (starts : List Bool) → Tabled false starts (started_by image reached) 1024 → Tells starts (Begins image)
-    begins_told starts u n h = (there, back)
-      where
-        there : get_or starts n false ≡ true → Begins image n
-        there e =
-            ⊎_elim (λ (z : n ≡ 0). inl z)
-            (λ (ne : n ≡ 0 → ⊥).
-            ⊎_elim (λ (z : eqb n 0 ≡ true). inl (eqb-true n 0 z))
-            (λ (z : saved_at image reached (n - 1) ≡ true). let p = (saved (n - 1) (omega arith)).0 z in inr (n - 1, p.0, p.1, omega arith))
-            (or_cases (eqb n 0) (saved_at image reached (n - 1)) (sym (u.holds n h) ∙ e)))
-            (cases_eq n 0)
+module _ (image : List ℕ) (reached : List Bool) (tells : Tells reached (Reaches (way_net image) 0)) where
+  saved : (s : ℕ) → s < 1024 → (saved_at image reached s ≡ true) ↔ (Reaches (way_net image) 0 s × (role_in (instruction_at image s) ≡ Save))
+  saved s h = (
+    λ e.
+        let p = and_parts (is_save (role_in (instruction_at image s))) (get_or reached s false) e in
+        ((tells s h).0 p.1, save_role (role_in (instruction_at image s)) p.0),
+    λ (q : Reaches (way_net image) 0 s × (role_in (instruction_at image s) ≡ Save)).
+        and_from (is_save (role_in (instruction_at image s))) (get_or reached s false) (ap is_save q.1) ((tells s h).1 q.0),
+  )
 
-        back : Begins image n → get_or starts n false ≡ true
-        back (inl e) = u.holds n h ∙ or_left (eqb n 0) (saved_at image reached (n - 1)) (eq-eqb n 0 e)
-        back (inr (s, r, role, e)) =
-            let same : n - 1 ≡ s = omega arith in
-            u.holds n h ∙ or_right (eqb n 0) (saved_at image reached (n - 1)) (ap (saved_at image reached) same ∙ (saved s (omega arith)).1 (r, role))
+  pub begins_told : (starts : List Bool) → Tabled false starts (started_by image reached) 1024 → Tells starts (Begins image)
+  begins_told starts u n h = (there, back)
+    where
+      there : get_or starts n false ≡ true → Begins image n
+      there e =
+          ⊎_elim (λ (z : n ≡ 0). inl z)
+          (λ (ne : n ≡ 0 → ⊥).
+          ⊎_elim (λ (z : eqb n 0 ≡ true). inl (eqb-true n 0 z))
+          (λ (z : saved_at image reached (n - 1) ≡ true). let p = (saved (n - 1) (omega arith)).0 z in inr (n - 1, p.0, p.1, omega arith))
+          (or_cases (eqb n 0) (saved_at image reached (n - 1)) (sym (u.holds n h) ∙ e)))
+          (cases_eq n 0)
+
+      back : Begins image n → get_or starts n false ≡ true
+      back (inl e) = u.holds n h ∙ or_left (eqb n 0) (saved_at image reached (n - 1)) (eq-eqb n 0 e)
+      back (inr (s, r, role, e)) =
+          let same : n - 1 ≡ s = omega arith in
+          u.holds n h ∙ or_right (eqb n 0) (saved_at image reached (n - 1)) (ap (saved_at image reached) same ∙ (saved s (omega arith)).1 (r, role))
 
 pub way_table_ways : (image : List ℕ) (nodes : List Node) → Tabled no_node nodes (λ i. way_node i (instruction_at image i)) 1024
     → (n : ℕ) → n < 1024 → (tabled nodes).ways n ≡ ways_of (way_node n (instruction_at image n)).successors

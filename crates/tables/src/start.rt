@@ -3,12 +3,12 @@ ghost use Rattle.std.specs.Prelude.{◌≡◌, ◌<◌, false, length};
 ghost use Rattle.isa.specs.Image.{instruction_at};
 ghost use Rattle.isa.specs.Lawful.{Lawful};
 ghost use Rattle.pricing.specs.Model.{Model};
-ghost use Rattle.walks.specs.Walk.{Start};
+ghost use Rattle.walks.specs.Walk.{Reachable, Start};
 ghost use Rattle.walks.specs.ImageGraph.{graph_of};
-ghost use Rattle.search.specs.Reach.{Tells};
+ghost use Rattle.search.specs.Reach.{Reaches, Tells};
 ghost use Rattle.paths.specs.Net.{no_node};
 ghost use Rattle.tables.specs.Node.{Tabled};
-ghost use Rattle.tables.specs.Start.{way_node, saved_at, started_by, Begins};
+ghost use Rattle.tables.specs.Start.{way_node, saved_at, started_by, way_net, Begins};
 
 use crate::node::successors_of;
 use crate::table::table_of;
@@ -57,12 +57,19 @@ fn start_table(image: &[u8], reached: &[bool; 1024]) -> [bool; 1024]
     table_of(|at| is_start(image, reached, at))
 }
 
+// Which slots are reached from slot 0, along all ways out.
+pub fn reached_in(image: &[u8]) -> [bool; 1024]
+    ensures any { Tells result (Reaches (way_net image.now) 0) }
+    ensures told { Lawful image.now → (m : Model) → Tells result (Reachable (graph_of m image.now)) }
+{
+    reach_from(&way_table(image), 0)
+}
+
 // Slot 0, and the slot after each reachable save.
 pub fn starts_of(image: &[u8]) -> [bool; 1024]
     ensures size { length result ≡ 1024 }
     ensures any { Tells result (Begins image.now) }
     ensures told { Lawful image.now → (m : Model) → Tells result (Start (graph_of m image.now)) }
 {
-    let reached = reach_from(&way_table(image), 0);
-    start_table(image, &reached)
+    start_table(image, &reached_in(image))
 }

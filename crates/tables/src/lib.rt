@@ -5,5 +5,5 @@
 pub mod chart;
 mod node;
 pub mod start;
-mod table;
+pub mod table;
 pub mod walk;

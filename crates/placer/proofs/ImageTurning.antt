@@ -2,9 +2,10 @@
 use Rattle.std.proofs.lemmas.Bool.Decides.{nat_tests}
 use Rattle.std.proofs.lemmas.Grind.{common_steps}
 use Rattle.std.proofs.Common.{◌≡◌, ℕ, ◌+◌, ◌-◌, ◌*◌, ◌/◌, ◌%◌, ◌<◌, ◌≤◌, Bool, true, false, cond, ◌&&◌, eqb, ltb, leb, List, [], ◌∷◌, length, get_or, Some, None, Option, sym, refl, ap, ◌∙◌, subst, ⊎_elim, arith, w16, w32, to_z}
+use mathlib.Core.Path.{subst⁻¹}
 use Rattle.std.proofs.lemmas.List.FromFn.{length-map-range_with_len, get_or-map-range_with_len}
 use Rattle.std.proofs.lemmas.List.{ext_get_or}
-use Rattle.std.proofs.lemmas.Bool.{and_parts, and_left, cases_eq, lt-ltb, cond-true, cond-false}
+use Rattle.std.proofs.lemmas.Bool.{and_parts, cases_eq, lt-ltb, cond-true, cond-false}
 use Rattle.isa.specs.declared.slot.Slot.{Slot}
 use Rattle.isa.specs.declared.instruction.Instruction.{Instruction}
 use Rattle.isa.specs.declared.instruction.Role.TheVariants.{Save}
@@ -124,18 +125,16 @@ module _ (P Q : ℕ → Bool) (image : List ℕ) where
       byte_turned P image j (omega arith) ∙ ap (λ (b : Bool). cond b (get_or save_bytes (j % 8) 0) (get_or image j 0)) (same (j / 8))
       ∙ sym (byte_turned Q image j (omega arith)))
 
-  -- bytes written into slot i, where it is idle
-  pub with_mark : (bytes : List ℕ) (i : ℕ) → ((k : ℕ) → (k ≡ i → ⊥) → turns_in P image k ≡ turns_in Q image k)
-      → (idles_in image i ≡ true → with_bytes (turned_image P image) i bytes ≡ turned_image Q image)
-      → (marked : Bool) → marked ≡ idles_in image i → cond marked (with_bytes (turned_image P image) i bytes) (turned_image P image) ≡ turned_image Q image
-  with_mark bytes i others written true e = written (sym e)
-  with_mark bytes i others written false e =
+  -- bytes written into slot i, where it is marked
+  pub with_mark : (bytes : List ℕ) (i : ℕ) → ((k : ℕ) → (k ≡ i → ⊥) → turns_in P image k ≡ turns_in Q image k) → (marked : Bool)
+      → (marked ≡ true → with_bytes (turned_image P image) i bytes ≡ turned_image Q image)
+      → (marked ≡ false → turns_in P image i ≡ turns_in Q image i)
+      → cond marked (with_bytes (turned_image P image) i bytes) (turned_image P image) ≡ turned_image Q image
+  with_mark bytes i others true written still = written refl
+  with_mark bytes i others false written still =
       turned_same
       (λ k.
-      ⊎_elim
-      (λ (same : k ≡ i).
-      let idle : idles_in image k ≡ false = ap (idles_in image) same ∙ sym e in and_left _ (P k) idle ∙ sym (and_left _ (Q k) idle))
-      (others k)
+      ⊎_elim (λ (same : k ≡ i). subst⁻¹ (λ (n : ℕ). turns_in P image n ≡ turns_in Q image n) same (still refl)) (others k)
       (cases_eq k i))
 
 module _ (P : ℕ → Bool) (image : List ℕ) where

@@ -5,4 +5,7 @@ pub mod Meaning
 pub mod Outcome
 pub mod Rounds
 pub mod Settling
+pub mod Trying
+pub mod TurnedGraph
+pub mod Turning
 pub mod Writing

@@ -18,7 +18,7 @@ use Rattle.certifier.proofs.Admitting.{admitted, early_number}
 use Rattle.placer.specs.Turn.{turned_image}
 use Rattle.placer.specs.Place.{placement_of, answer_by, image_by, left_by, placing, placed_image, answer_of, Meaning, Left}
 use Rattle.placer.proofs.ImageTurning.{turned_image_lem}
-use Rattle.placer.proofs.Settling.{graph_turned, order_turned}
+use Rattle.placer.proofs.TurnedGraph.{graph_turned, order_turned}
 
 module _ (m : Model) (before : List ℕ) (budget room : ℕ) where
   abbrev g : Graph

@@ -1,5 +1,5 @@
--- What comes out of turning every idle slot, settling and certifying is the placement.
-use Rattle.std.proofs.Common.{◌≡◌, ℕ, ◌/◌, Bool, true, false, List, length, Ok, Err, Result, sym, refl, ap, ◌∙◌, arith}
+-- What comes out of writing the saves that are settled, and certifying, is the placement.
+use Rattle.std.proofs.Common.{◌≡◌, ℕ, ◌/◌, Bool, true, false, cond, List, length, get_or, Ok, Err, Result, sym, refl, ap, ◌∙◌, arith}
 use Rattle.std.proofs.lemmas.Bool.{cond-true, cond-false}
 use Rattle.isa.specs.declared.refusal.Refusal.{Refusal}
 use Rattle.isa.specs.Slot.{slot_count}
@@ -9,18 +9,17 @@ use Rattle.walks.specs.Graph.{Graph}
 use Rattle.walks.specs.Acceptance.{Answer, accepted, loop, over}
 use Rattle.walks.specs.Certified.{certified}
 use Rattle.walks.specs.ImageGraph.{graph_of}
-use Rattle.walks.specs.Placing.{turned, is_accepted, allowed, placed, placement_by}
-use Rattle.walks.proofs.Dropping.{dropped_ok}
-use Rattle.tables.specs.Node.{Tabled}
+use Rattle.walks.specs.Placing.{idles, turned, is_accepted, allowed, placed, placement_by}
+use Rattle.walks.proofs.Dropping.{dropped_within, dropped_ok}
 use Rattle.certifier.specs.Certify.{result_of, certification, InOrder}
 use Rattle.certifier.specs.Certify as certify
 use Rattle.placer.specs.SlotBytes.{with_marked, idle_bytes, save_bytes}
 use Rattle.placer.specs.Turn.{idles_in, turned_image}
-use Rattle.placer.specs.Settle.{accepts, settled, settled_all}
+use Rattle.placer.specs.Settle.{settled}
 use Rattle.placer.specs.Place.{unplaced, answer_by, image_by, placement_of, Left}
 use Rattle.placer.proofs.ImageTurning.{length_turned}
 use Rattle.placer.proofs.Marking.{turned_upward, undone_all}
-use Rattle.placer.proofs.Settling.{certified_turned, accepts_turned, settled_is}
+use Rattle.placer.proofs.TurnedGraph.{certified_turned}
 
 accepted_result : (a : Answer) → is_accepted a ≡ true → result_of a ≡ Ok tt
 accepted_result a h1 = grind arith
@@ -36,40 +35,36 @@ pub left_accepted : (m : Model) (before after : List ℕ) (old new : List Worth)
 left_accepted m before after old new r h1 h2 = grind arith
 
 module _ (m : Model) (before : List ℕ) (budget room : ℕ) (order : InOrder before budget room)
-    (marks : List Bool) (table : Tabled false marks (idles_in before) 1024) where
-  marked : Tabled false marks (idles_in before) (slot_count before)
-  marked = grind arith
-
+    (marks : List Bool) (marked : (n : ℕ) → get_or marks n false ≡ settled m before budget n) where
   abbrev g : Graph
   g = graph_of m before
 
   -- the answer about the image with every idle slot turned
   abbrev first : Answer
-  first = certified (turned m.dearest g (idles_in before)) budget
+  first = certified (turned m.dearest g (idles g)) budget
 
   abbrev ok : (ℕ → Bool) → Bool
   ok = allowed m.dearest g budget
 
-  module _ (all after : List ℕ) (written : all ≡ with_marked marks save_bytes (slot_count before) before)
-      (settles : after ≡ settled_all m budget marks all) where
-    turns : all ≡ turned_image (idles_in before) before
-    turns = written ∙ turned_upward before marks marked
+  abbrev saves : ℕ → Bool
+  saves = settled m before budget
 
-    tested : accepts m budget all ≡ is_accepted first
-    tested = ap (accepts m budget) turns ∙ accepts_turned m before budget room order (idles_in before)
+  saves_idle : (n : ℕ) → saves n ≡ true → idles_in before n ≡ true
+  saves_idle n = go (is_accepted first)
+    where
+      go : (b : Bool) → cond b (placed m.dearest g budget) (idles g) n ≡ true → idles g n ≡ true
+      go true e = dropped_within ok g.size 0 (idles g) n e
+      go false e = e
 
-    count : slot_count all ≡ slot_count before
-    count = ap (λ (n : ℕ). n / 8) (ap length turns ∙ length_turned (idles_in before) before)
+  module _ (after : List ℕ) (written : after ≡ with_marked marks save_bytes (slot_count before) before) where
+    turns : after ≡ turned_image saves before
+    turns = written ∙ turned_upward before saves saves_idle marks (λ n h. marked n)
 
     after_accepted : is_accepted first ≡ true → after ≡ turned_image (placed m.dearest g budget) before
-    after_accepted e =
-        settles ∙ cond-true _ _ _ (tested ∙ e)
-        ∙ ap (λ (n : ℕ). settled m budget marks n 0 all) count
-        ∙ ap (settled m budget marks (slot_count before) 0) turns
-        ∙ settled_is m before budget room order marks marked (slot_count before) 0 (idles_in before) (omega arith) (λ j h. refl)
+    after_accepted e = turns ∙ ap (λ (P : ℕ → Bool). turned_image P before) (cond-true _ _ _ e)
 
     after_refused : is_accepted first ≡ false → after ≡ turned_image (idles_in before) before
-    after_refused e = settles ∙ cond-false _ _ _ (tested ∙ e) ∙ turns
+    after_refused e = turns ∙ ap (λ (P : ℕ → Bool). turned_image P before) (cond-false _ _ _ e)
 
     certified_after : (P : ℕ → Bool) → after ≡ turned_image P before → certification m after budget room ≡ result_of (certified (turned m.dearest g P) budget)
     certified_after P e =
@@ -95,10 +90,11 @@ module _ (m : Model) (before : List ℕ) (budget room : ℕ) (order : InOrder be
         go (over s p) f =
             let h = certified_after (idles_in before) (after_refused (ap is_accepted f)) ∙ ap result_of f in cc
 
-    undone_after : after ≡ turned_image (idles_in before) before → with_marked marks idle_bytes (slot_count after) after ≡ before
-    undone_after e =
-        let n : slot_count after ≡ slot_count before = ap (λ (k : ℕ). k / 8) (ap length e ∙ length_turned (idles_in before) before) in
-        ap (λ (k : ℕ). with_marked marks idle_bytes k after) n ∙ ap (with_marked marks idle_bytes (slot_count before)) e ∙ undone_all before marks marked
+    undone_after : with_marked marks idle_bytes (slot_count after) after ≡ before
+    undone_after =
+        let n : slot_count after ≡ slot_count before = ap (λ (k : ℕ). k / 8) (ap length turns ∙ length_turned saves before) in
+        ap (λ (k : ℕ). with_marked marks idle_bytes k after) n ∙ ap (with_marked marks idle_bytes (slot_count before)) turns
+        ∙ undone_all before saves saves_idle marks (λ n h. marked n)
 
     pub record AtErr (b : Refusal) (out : List ℕ) : Type 0 where
       pub value : unplaced first ≡ answer_by (placement_of m before budget)
@@ -126,5 +122,5 @@ module _ (m : Model) (before : List ℕ) (budget room : ℕ) (order : InOrder be
 
         go : (a : Answer) → first ≡ a → Answered (unplaced a) out a
         go accepted f = let h = accepted_after (ap is_accepted f) in cc
-        go (loop s) f = (refl, u ∙ undone_after stuck)
-        go (over s p) f = (refl, u ∙ undone_after stuck)
+        go (loop s) f = (refl, u ∙ undone_after)
+        go (over s p) f = (refl, u ∙ undone_after)

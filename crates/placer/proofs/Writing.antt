@@ -1,10 +1,8 @@
 -- A slot written into an image.
 use Rattle.std.proofs.lemmas.Bool.Decides.{nat_tests}
 use Rattle.std.proofs.lemmas.Grind.{common_steps}
-use Rattle.std.proofs.Common.{◌≡◌, ℕ, ◌+◌, ◌-◌, ◌*◌, ◌<◌, ◌≤◌, ◌⊎◌, List, length, get_or, take, drop, sym, refl, ◌∙◌, inl, inr, ⊎_elim, arith}
-use borrow.Rule.Slice.PartMut.{put_mid}
-use Rattle.std.proofs.lemmas.Slice.{take-put_mid_below, drop-put_mid}
-use Rattle.std.proofs.lemmas.List.{take-append-drop, drop-drop, ext_get_or}
+use Rattle.std.proofs.Common.{◌≡◌, ℕ, ◌+◌, ◌-◌, ◌*◌, ◌<◌, ◌≤◌, ◌⊎◌, List, length, get_or, sym, ◌∙◌, inl, inr, ⊎_elim, arith}
+use Rattle.std.proofs.lemmas.List.{ext_get_or}
 use Rattle.std.proofs.lemmas.Bool.{cases_lt}
 use Rattle.placer.specs.SlotBytes.{bytes_at, with_bytes}
 
@@ -39,12 +37,3 @@ module _ (image : List ℕ) (i : ℕ) (bytes : List ℕ) (there : 8 * i + 8 ≤ 
       (λ (k : 8 * i + 8 ≤ j). byte_after j k ∙ sym (others j (omega arith) (inr k)))
       (cases_lt j (8 * i + 8)))
       (cases_lt j (8 * i)))
-
--- a slot's own bytes, written back over others
-pub written_back : (image bytes former : List ℕ) (i : ℕ) → 8 * i + 8 ≤ length image → length bytes ≡ 8
-    → former ≡ take (8 * i + 8 - 8 * i) (drop (8 * i) image) → with_bytes (put_mid (8 * i) (8 * i + 8 - 8 * i) image bytes) i former ≡ image
-written_back image bytes former i there eight f =
-    let d : 8 * i + 8 - 8 * i ≡ 8 = omega arith in
-    let front = take-put_mid_below (8 * i) (8 * i + 8 - 8 * i) image bytes (8 * i) (omega arith) (omega arith) in
-    let back = drop-put_mid (8 * i) (8 * i + 8 - 8 * i) image bytes (8 * i + 8) (omega arith) (omega arith) (omega arith) in
-    rw (front, back, f, d, ← drop-drop, take-append-drop, take-append-drop) refl

@@ -3,3 +3,4 @@ pub mod Place
 pub mod Settle
 pub mod SlotBytes
 pub mod Turn
+pub mod Turned

@@ -1,26 +1,23 @@
--- An image after each slot of a set was tried as idle. Assumes nothing.
---     m, budget                    a price model, and a budget
---     marks                        for each slot, whether it is one of the set
---     accepts m budget image       the certifier accepts the image
---     settled_at m budget i marked image     slot i made idle, where it is marked and the image is accepted so
---     settled m budget marks k n image      the image after k slots from n upward were settled, in turn
---     settled_all m budget marks image       the image after all its slots were settled, if it was accepted before
-use Rattle.std.specs.Prelude.{ℕ, zero, suc, Bool, false, ◌&&◌, List, is_ok, slice_index_or, if◌then◌else◌}
-use Rattle.isa.specs.Slot.{slot_count}
+-- The idle slots that become saves. Assumes nothing.
+--     AllSettled saving g budget count t u     u has the saves of t that are left once each node below count was tried as idle,
+--                                  where the graph is accepted with all of them, and else all
+--     settled m image budget       the idle slots of an image that become saves: none of them that could be left out, where the
+--                                  image is accepted with all of them turned, and else all
+use Rattle.std.specs.Prelude.{◌≡◌, ℕ, Bool, List, if◌then◌else◌}
 use Rattle.pricing.specs.Model.{Model}
-use Rattle.certifier.specs.Certify.{certification}
-use Rattle.placer.specs.SlotBytes.{with_bytes, idle_bytes}
+use Rattle.walks.specs.Graph.{Graph}
+use Rattle.walks.specs.ImageGraph.{graph_of}
+use Rattle.walks.specs.Placing.{idles, allowed, dropped, placed}
+use Rattle.placer.specs.declared.turned.Turned.{Turned}
+use Rattle.placer.specs.Turned.{marked}
 
-module _ (m : Model) (budget : ℕ) where
-  unfoldable pub accepts : List ℕ → Bool
-  accepts image = is_ok (certification m image budget 1024)
+abbrev pub AllSettled : ℕ → Graph → ℕ → ℕ → Turned → Turned → Type 0
+AllSettled saving g budget count t u =
+    let P = marked t.saves in
+    let ok = allowed saving g budget in
+    marked u.saves ≡ (if ok P then dropped ok count 0 P else P)
 
-  abbrev pub settled_at : ℕ → Bool → List ℕ → List ℕ
-  settled_at i marked image = let tried = with_bytes image i idle_bytes in if marked && accepts tried then tried else image
-
-  abbrev pub settled : List Bool → ℕ → ℕ → List ℕ → List ℕ
-  settled marks zero n image = image
-  settled marks (suc k) n image = settled marks k (suc n) (settled_at n (slice_index_or marks n false) image)
-
-  abbrev pub settled_all : List Bool → List ℕ → List ℕ
-  settled_all marks image = if accepts image then settled marks (slot_count image) 0 image else image
+abbrev pub settled : Model → List ℕ → ℕ → ℕ → Bool
+settled m image budget =
+    let g = graph_of m image in
+    if allowed m.dearest g budget (idles g) then placed m.dearest g budget else idles g

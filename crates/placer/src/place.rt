@@ -4,7 +4,7 @@ ghost use Rattle.walks.specs.Acceptance.{Answer};
 ghost use Rattle.certifier.specs.Certify.{result_of, InOrder};
 ghost use Rattle.placer.specs.Place.{unplaced, placement_of, answer_by, image_by, placing, placed_image, Meaning, Left};
 
-use crate::settle::settle;
+use crate::settle::saves_in;
 use crate::slot_bytes::{IDLE, SAVE, write_marked};
 use crate::turn::idle_slots;
 use certifier::certify::Certifier;
@@ -29,8 +29,8 @@ fn no_placement(refusal: Refusal) -> Refusal
     }
 }
 
-// Turns every idle slot into a save, settles these upward where the image is
-// accepted, and fills the working list for the image that came out.
+// Turns into saves the idle slots that need it, or all where the image is
+// refused so, and fills the working list for the image that came out.
 fn place_lawful<M: PriceModel>(
     image: &mut [u8],
     by: &Certifier<'_, M>,
@@ -41,11 +41,10 @@ fn place_lawful<M: PriceModel>(
     ensures image { image.new ≡ image_by (placement_of (M.PriceModel.means by.now.model.now) image.old by.now.budget) image.old }
     ensures left { Left (M.PriceModel.means by.now.model.now) image.old image.new working.old working.new result }
 {
-    let idle = idle_slots(image);
-    write_marked(image, &idle, SAVE);
-    settle(image, &idle, by);
+    let saves = saves_in(image, &idle_slots(image), by);
+    write_marked(image, &saves, SAVE);
     if let Err(refusal) = by.certify(image, working) {
-        write_marked(image, &idle, IDLE);
+        write_marked(image, &saves, IDLE);
         return Err(no_placement(refusal));
     }
     Ok(())

@@ -1,21 +1,48 @@
-// The slots that were turned into saves, tried one after another as idle.
-ghost use Rattle.std.specs.Prelude.{◌≡◌, ◌≤◌, length};
-ghost use Rattle.placer.specs.Settle.{settled_all};
+// The idle slots that become saves: all of them at first, and then each tried
+// as idle, one after another.
+ghost use Rattle.std.specs.Prelude.{◌≡◌, ℕ, ◌≤◌, false, slice_index_or};
+ghost use Rattle.isa.specs.Lawful.{Lawful};
+ghost use Rattle.tables.specs.Node.{Tabled};
+ghost use Rattle.walks.specs.Graph.{Graph};
+ghost use Rattle.placer.specs.Turn.{idles_in};
+ghost use Rattle.placer.specs.Turned.{marked, Plain, Turns};
+ghost use Rattle.placer.specs.Settle.{AllSettled, settled};
 
-use crate::trial::{is_accepted, settle_at};
+use crate::trial::settle_at;
+use crate::turn::turn_all;
+use crate::turned::Turned;
 use certifier::certify::Certifier;
+use paths::node::Node;
 use pricing::model::PriceModel;
+use tables::walk::walk_table;
 
-// Leaves each marked slot idle, upward, if the image is accepted so. An image
-// that is refused as it is stays so.
-pub(crate) fn settle<M: PriceModel>(image: &mut [u8], marks: &[bool; 1024], by: &Certifier<'_, M>)
-    requires { length image.old ≤ 8192 }
-    ensures { image.new ≡ settled_all (M.PriceModel.means by.now.model.now) by.now.budget marks.now image.old }
+// Leaves each save idle, upward, if the tables are accepted so. Tables that are
+// refused as they are stay so.
+fn settle(turned: &mut Turned, plain: &[Node; 1024], count: usize, budget: u64)
+    requires { count ≤ 1024 }
+    ensures { (saving : ℕ) (g : Graph) → Plain saving g plain.now → Turns saving g plain.now turned.old → AllSettled saving g budget count turned.old turned.new }
 {
-    if !is_accepted(image, by) {
+    if !turned.fits(budget) {
         return;
     }
-    for (at, marked) in marks[..image.len() / 8].iter().enumerate() {
-        settle_at(image, at, *marked, by);
+    for (at, node) in plain[..count].iter().enumerate() {
+        settle_at(turned, at, *node, budget);
     }
+}
+
+// The idle slots that become saves: all of them, less those that need not be,
+// where the image is accepted with all.
+pub(crate) fn saves_in<M: PriceModel>(
+    image: &[u8],
+    idle: &[bool; 1024],
+    by: &Certifier<'_, M>,
+) -> [bool; 1024]
+    requires lawful { Lawful image.now }
+    requires idle { Tabled false idle.now (idles_in image.now) 1024 }
+    ensures { (n : ℕ) → slice_index_or result n false ≡ settled (M.PriceModel.means by.now.model.now) image.now by.now.budget n }
+{
+    let plain = walk_table(image, by.model);
+    let mut turned = turn_all(image, idle, &plain, by.model.dearest() as u64);
+    settle(&mut turned, &plain, image.len() / 8, by.budget);
+    turned.saves
 }

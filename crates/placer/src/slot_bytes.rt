@@ -9,14 +9,11 @@ pub(crate) const IDLE: [u8; 8] = [0x05, 0, 0, 0, 0, 0, 0, 0];
 // The call of the helper that saves.
 pub(crate) const SAVE: [u8; 8] = [0x85, 0, 0, 0, 1, 0, 0, 0];
 
-// Puts other bytes into a slot, and returns the former ones.
-pub(crate) fn replace_slot(image: &mut [u8], at: usize, mut bytes: [u8; 8]) -> [u8; 8]
+fn write_slot(image: &mut [u8], at: usize, bytes: [u8; 8])
     requires { 8 * at + 8 ≤ length image.old }
-    ensures written { image.new ≡ with_bytes image.old at bytes }
-    ensures former { with_bytes image.new at result ≡ image.old }
+    ensures { image.new ≡ with_bytes image.old at bytes }
 {
-    image[8 * at..8 * at + 8].swap_with_slice(&mut bytes);
-    bytes
+    image[8 * at..8 * at + 8].copy_from_slice(&bytes);
 }
 
 // Gives these bytes to each marked slot.
@@ -27,7 +24,7 @@ pub(crate) fn write_marked(image: &mut [u8], marks: &[bool; 1024], bytes: [u8; 8
     // Stays: of an image lent to chunks_exact_mut a proof keeps the length alone.
     for (at, marked) in marks[..image.len() / 8].iter().enumerate() {
         if *marked {
-            replace_slot(image, at, bytes);
+            write_slot(image, at, bytes);
         }
     }
 }

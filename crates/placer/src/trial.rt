@@ -1,64 +1,60 @@
-// A slot under trial: while a trial lasts the slot is idle, and at its end it
-// holds its former eight bytes again.
-ghost use Rattle.std.specs.Prelude.{◌≡◌, ◌+◌, ◌*◌, ◌≤◌, length};
-ghost use Rattle.placer.specs.SlotBytes.{with_bytes};
-ghost use Rattle.placer.specs.Settle.{accepts, settled_at};
+// A save under trial: while a trial lasts the slot is idle, and at its end its
+// former entry is back.
+ghost use Rattle.std.specs.Prelude.{◌≡◌, ℕ, ◌+◌, ◌<◌, List};
+ghost use Rattle.paths.specs.declared.node.Node.{Node};
+ghost use Rattle.paths.specs.Net.{node_at};
+ghost use Rattle.walks.specs.Graph.{Graph};
+ghost use Rattle.walks.specs.Certified.{certified};
+ghost use Rattle.walks.specs.Placing.{is_accepted};
+ghost use Rattle.certifier.specs.Fits.{TableOf};
+ghost use Rattle.placer.specs.Turned.{Plain, Turns, Written, Settled};
 
-use crate::slot_bytes::{IDLE, replace_slot};
-use certifier::certify::Certifier;
-use pricing::model::PriceModel;
-
-// Whether the certifier accepts an image.
-#[tactic(auto, unfolding(crate::specs::Settle::accepts))]
-pub(crate) fn is_accepted<M: PriceModel>(image: &[u8], by: &Certifier<'_, M>) -> bool
-    ensures { result ≡ accepts (M.PriceModel.means by.now.model.now) by.now.budget image.now }
-{
-    by.verdict(image).is_ok()
-}
+use crate::turned::{Entry, Turned};
+use paths::node::Node;
 
 struct Trial<'a> {
-    image: &'a mut [u8],
+    turned: &'a mut Turned,
     at: usize,
-    former: [u8; 8],
-    ghost there: { 8 * at + 8 ≤ length image.now },
+    former: Entry,
+    ghost there: { at + 1 < 1024 },
 }
 
-// Whatever way a trial ends, its slot gets its former eight bytes back.
+// Whatever way a trial ends, its slot gets its former entry back.
 impl Drop for Trial<'_> {
     fn drop(self)
-        ensures { self.exit.0.now ≡ with_bytes self.entry.image.now self.entry.at self.entry.former }
+        ensures { Written self.entry.turned.now self.entry.at self.entry.former self.exit.0.now }
     {
-        let Trial { image, at, former } = self;
-        replace_slot(image, at, former);
+        let Trial { turned, at, former } = self;
+        turned.put(at, former);
     }
 }
 
 impl Trial<'_> {
-    fn stands<M: PriceModel>(&self, by: &Certifier<'_, M>) -> bool
-        ensures { result ≡ accepts (M.PriceModel.means by.now.model.now) by.now.budget self.now.image.now }
+    fn stands(&self, budget: u64) -> bool
+        ensures { (g : Graph) → TableOf g self.now.turned.now.nodes self.now.turned.now.starts → result ≡ is_accepted (certified g budget) }
     {
-        is_accepted(self.image, by)
+        self.turned.fits(budget)
     }
 }
 
-// Leaves a marked slot idle, if the image is accepted so.
-pub(crate) fn settle_at<M: PriceModel>(
-    image: &mut [u8],
-    at: usize,
-    marked: bool,
-    by: &Certifier<'_, M>,
-)
-    requires { 8 * at + 8 ≤ length image.old }
-    ensures { image.new ≡ settled_at (M.PriceModel.means by.now.model.now) by.now.budget at marked image.old }
+// Leaves a slot that is a save idle, if the tables are accepted so.
+pub(crate) fn settle_at(turned: &mut Turned, at: usize, plain: Node, budget: u64)
+    requires { at < 1024 }
+    ensures { (saving : ℕ) (g : Graph) (nodes : List Node) → Plain saving g nodes → node_at nodes at ≡ plain → Turns saving g nodes turned.old → Settled saving g nodes budget at turned.old turned.new }
 {
-    if !marked {
+    if !turned.saves[at] {
         return;
     }
-    let former = replace_slot(image, at, IDLE);
-    let trial = Trial { image, at, former };
-    let stands = trial.stands(by);
+    let idle = Entry {
+        node: plain,
+        save: false,
+        start: false,
+    };
+    let former = turned.put(at, idle);
+    let trial = Trial { turned, at, former };
+    let stands = trial.stands(budget);
     drop(trial);
     if stands {
-        replace_slot(image, at, IDLE);
+        turned.put(at, idle);
     }
 }

@@ -8,8 +8,8 @@ returns g c =
     let m = g.M.PriceModel.means c.args.by.now.model.now in
     let before = c.args.image.now in
     let old = c.args.working.now in
-    let after = c.settle.new.image in
-    let t = at_ok m before c.args.by.now.budget (length old) c.requires c.idle_slots-idle.result c.idle_slots-idle.ensures c.write_marked.new.image after c.write_marked.ensures c.settle.ensures
+    let after = c.write_marked.new.image in
+    let t = at_ok m before c.args.by.now.budget (length old) c.requires c.saves_in-saves.result c.saves_in-saves.ensures after c.write_marked.ensures
     (sym c.certify.ensures.value ∙ c.in_default.is) in
     record {
       value = t.0;
@@ -22,9 +22,9 @@ returns-in-Err g c =
     let m = g.M.PriceModel.means c.args.by.now.model.now in
     let before = c.args.image.now in
     let old = c.args.working.now in
-    let after = c.settle.new.image in
+    let after = c.write_marked.new.image in
     let b = c.in-Err.refusal in
-    let t = at_err m before c.args.by.now.budget (length old) c.requires c.idle_slots-idle.result c.idle_slots-idle.ensures c.write_marked.new.image after c.write_marked.ensures c.settle.ensures
+    let t = at_err m before c.args.by.now.budget (length old) c.requires c.saves_in-saves.result c.saves_in-saves.ensures after c.write_marked.ensures
     b c.write_marked-in-Err.new.image (sym c.certify.ensures.value ∙ c.in-Err.is) c.write_marked-in-Err.ensures in
     let carried : Err c.no_placement.result ≡ unplaced _ = c.no_placement.ensures _ t.result in
     record {

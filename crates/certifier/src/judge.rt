@@ -86,7 +86,7 @@ pub(crate) fn judge<V: Priced, M: PriceModel>(
     requires room { 1024 ≤ length worths.old }
     ensures { Judged V.PathValue.kind V.Priced.price (graph_of (M.PriceModel.means by.now.model.now) image.now) by.now.budget worths.old worths.new result }
 {
-    let Chart { nodes, starts } = Chart::of(image, by.model);
+    let Chart { nodes, starts, .. } = Chart::of(image, by.model);
     let count = image.len() / 8;
     let table = Table {
         nodes: &nodes,

@@ -3,10 +3,10 @@ use Rattle.std.proofs.Common.{◌≡◌, ℕ, suc, ◌+◌, ◌-◌, ◌*◌, �
 use Rattle.isa.specs.Lawful.{Lawful}
 use Rattle.pricing.specs.Model.{Model, Bounded}
 use Rattle.paths.specs.declared.node.Node.{Node}
-use Rattle.paths.specs.Net.{Described}
-use Rattle.walks.specs.Graph.{Graph, net_of}
+use Rattle.walks.specs.Graph.{Graph}
 use Rattle.walks.specs.ImageGraph.{graph_of}
 use Rattle.walks.proofs.Imaging.{lawful_placeable, lawful_small}
+use Rattle.tables.specs.Chart.{ChartOf}
 use Rattle.tables.proofs.Describing.{slots_small}
 use Rattle.walks.specs.Certified.{certified}
 use Rattle.walks.specs.Placing.{turned, is_accepted, allowed, dropped}
@@ -16,15 +16,16 @@ use Rattle.placer.specs.Turned.{marked, Plain, Turns, Settled}
 use Rattle.placer.proofs.Trying.{tables_turned}
 
 pub plain_of : (m : Model) → Bounded m → (image : List ℕ) → Lawful image
-    → (plain : List Node) → ((n : ℕ) → n < 1024 → Described plain (net_of (graph_of m image)) n) → Plain m.dearest (graph_of m image) plain
-plain_of m bounded image lawful plain described =
+    → (plain : List Node) (starts : List Bool) → ChartOf (graph_of m image) plain starts → Plain m.dearest (graph_of m image) plain
+plain_of m bounded image lawful plain starts chart =
     record {
       placeable = lawful_placeable m image lawful;
       most = 2 * 65535;
       small = lawful_small m bounded image lawful;
       paid = let small = bounded.dearest_small in omega arith;
       size = slots_small image lawful;
-      described = described;
+      described = chart.described;
+      beyond = chart.beyond;
     }
 
 module _ (saving : ℕ) (g : Graph) (plain : List Node) (budget : ℕ) where

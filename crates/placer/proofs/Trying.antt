@@ -1,6 +1,7 @@
 -- The tables of a graph with idle nodes turned into saves, and a save tried as idle in them.
 use Rattle.std.proofs.Common.{◌≡◌, ℕ, zero, suc, ◌+◌, ◌<◌, ◌≤◌, Bool, true, false, cond, not, ◌&&◌, eqb, List, [], length, get_or, set, sym, refl, ap, ◌∙◌, ⊎_elim, arith}
-use Rattle.std.proofs.lemmas.Bool.{cases_eq, cond-true, cond-false, and_left, and_right, and_from, not_from_true, eq-eqb, ne_eqb}
+use lib.ListN.{get_or-eq_default}
+use Rattle.std.proofs.lemmas.Bool.{cases_eq, cases_lt, cond-true, cond-false, and_left, and_right, and_from, not_from_true, eq-eqb, ne_eqb}
 use Rattle.std.proofs.lemmas.Bool.Decides.{nat_tests}
 use Rattle.std.proofs.lemmas.Grind.{common_steps}
 use Rattle.std.proofs.lemmas.List.{length-set, get_or-set_same, get_or-set_other}
@@ -31,6 +32,10 @@ turned_price saving r b q x y h1 h2 h3 = grind arith
 turned_slot : (saving : ℕ) (b : Bool) (s : ℕ) (x y : Node) → s ≡ x.slot → y ≡ turned_node b saving x → s ≡ y.slot
 turned_slot saving b s x y h1 h2 = grind arith
 
+-- past the graph there is no way out, of a save neither
+turned_end : (b : Bool) (saving : ℕ) (x y : Node) → ways_of x.successors ≡ [] → y ≡ turned_node b saving x → ways_of y.successors ≡ []
+turned_end b saving x y h1 h2 = grind arith
+
 price_most : (b : Bool) (saving q most : ℕ) → saving ≤ most → q ≤ most → cond b saving q ≤ most
 price_most b saving q most h1 h2 = grind arith
 
@@ -47,12 +52,17 @@ module _ (saving : ℕ) (g : Graph) (plain : List Node) (p : Plain saving g plai
         size = p.size;
         described = λ n l.
             let d = p.described n l in
-            let e = turns.nodes n l in
+            let small = p.size in
+            let e = turns.nodes n (omega arith) in
             record {
               ways = turned_ways saving (g.role n) (P n) (g.ways n) (node_at plain n) (node_at t.nodes n) (turns.idle n) d.ways e;
               price = turned_price saving (g.role n) (P n) (g.price n) (node_at plain n) (node_at t.nodes n) (turns.idle n) d.price e;
               slot = turned_slot saving (P n) (g.slot n) (node_at plain n) (node_at t.nodes n) d.slot e;
             };
+        beyond = λ n le. ⊎_elim
+            (λ (l : n < 1024). turned_end (P n) saving (node_at plain n) (node_at t.nodes n) (p.beyond n le) (turns.nodes n l))
+            (λ (past : 1024 ≤ n). let long = turns.sized.0 in ap (λ (x : Node). ways_of x.successors) (get_or-eq_default t.nodes no_node (omega arith)))
+            (cases_lt n 1024);
         told = λ n l.
             let e = turns.starts n l in
             (λ yes. started_is h sound n (sym e ∙ yes), λ start. e ∙ started_yes h sound n start);

@@ -7,10 +7,10 @@
 --     Turns saving g plain t       t has the tables of g with the idle nodes that it marks turned into saves
 --     Written t at entry u         u is t with another entry for node at
 --     Settled saving g plain budget at t u     u is t once node at was tried as idle
-use Rattle.std.specs.Prelude.{◌≡◌, ℕ, zero, suc, ◌+◌, ◌<◌, ◌≤◌, Bool, false, if◌then◌else◌, ◌&&◌, ◌||◌, List, length, slice_index_or, slice_set}
+use Rattle.std.specs.Prelude.{◌≡◌, ℕ, zero, suc, ◌+◌, ◌<◌, ◌≤◌, Bool, false, if◌then◌else◌, ◌&&◌, ◌||◌, List, [], length, slice_index_or, slice_set}
 use Rattle.paths.specs.declared.node.Successors.TheVariants.{End}
 use Rattle.paths.specs.declared.node.Node.{Node}
-use Rattle.paths.specs.Net.{node_at, Described}
+use Rattle.paths.specs.Net.{node_at, tabled, Described}
 use Rattle.walks.specs.Graph.{Graph, net_of, Small}
 use Rattle.walks.specs.Certified.{started}
 use Rattle.walks.specs.Placing.{Within, idles, turned, allowed, dropped, Placeable}
@@ -36,7 +36,8 @@ pub record Plain (saving : ℕ) (g : Graph) (plain : List Node) : Type 0 where
   pub small : Small g most
   pub paid : saving ≤ most
   pub size : g.size ≤ 1024
-  pub described : (n : ℕ) → n < 1024 → Described plain (net_of g) n
+  pub described : (n : ℕ) → n < g.size → Described plain (net_of g) n
+  pub beyond : (n : ℕ) → g.size ≤ n → (tabled plain).ways n ≡ []
 
 pub record Turns (saving : ℕ) (g : Graph) (plain : List Node) (t : Turned) : Type 0 where
   pub sized : (length t.nodes ≡ 1024) × (length t.starts ≡ 1024)

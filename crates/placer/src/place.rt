@@ -6,7 +6,6 @@ ghost use Rattle.placer.specs.Place.{unplaced, placement_of, answer_by, image_by
 
 use crate::settle::saves_in;
 use crate::slot_bytes::{IDLE, SAVE, write_marked};
-use crate::turn::idle_slots;
 use certifier::certify::Certifier;
 use isa::refusal::{Refusal, Unplaceable};
 use paths::worth::Worth;
@@ -41,7 +40,7 @@ fn place_lawful<M: PriceModel>(
     ensures image { image.new ≡ image_by (placement_of (M.PriceModel.means by.now.model.now) image.old by.now.budget) image.old }
     ensures left { Left (M.PriceModel.means by.now.model.now) image.old image.new working.old working.new result }
 {
-    let saves = saves_in(image, &idle_slots(image), by);
+    let saves = saves_in(image, by);
     write_marked(image, &saves, SAVE);
     if let Err(refusal) = by.certify(image, working) {
         write_marked(image, &saves, IDLE);

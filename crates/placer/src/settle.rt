@@ -2,9 +2,7 @@
 // as idle, one after another.
 ghost use Rattle.std.specs.Prelude.{◌≡◌, ℕ, ◌≤◌, false, slice_index_or};
 ghost use Rattle.isa.specs.Lawful.{Lawful};
-ghost use Rattle.tables.specs.Node.{Tabled};
 ghost use Rattle.walks.specs.Graph.{Graph};
-ghost use Rattle.placer.specs.Turn.{idles_in};
 ghost use Rattle.placer.specs.Turned.{marked, Plain, Turns};
 ghost use Rattle.placer.specs.Settle.{AllSettled, settled};
 
@@ -14,7 +12,7 @@ use crate::turned::Turned;
 use certifier::certify::Certifier;
 use paths::node::Node;
 use pricing::model::PriceModel;
-use tables::walk::walk_table;
+use tables::chart::Chart;
 
 // Leaves each save idle, upward, if the tables are accepted so. Tables that are
 // refused as they are stay so.
@@ -32,17 +30,12 @@ fn settle(turned: &mut Turned, plain: &[Node; 1024], count: usize, budget: u64)
 
 // The idle slots that become saves: all of them, less those that need not be,
 // where the image is accepted with all.
-pub(crate) fn saves_in<M: PriceModel>(
-    image: &[u8],
-    idle: &[bool; 1024],
-    by: &Certifier<'_, M>,
-) -> [bool; 1024]
-    requires lawful { Lawful image.now }
-    requires idle { Tabled false idle.now (idles_in image.now) 1024 }
+pub(crate) fn saves_in<M: PriceModel>(image: &[u8], by: &Certifier<'_, M>) -> [bool; 1024]
+    requires { Lawful image.now }
     ensures { (n : ℕ) → slice_index_or result n false ≡ settled (M.PriceModel.means by.now.model.now) image.now by.now.budget n }
 {
-    let plain = walk_table(image, by.model);
-    let mut turned = turn_all(image, idle, &plain, by.model.dearest() as u64);
-    settle(&mut turned, &plain, image.len() / 8, by.budget);
+    let chart = Chart::of(image, by.model);
+    let mut turned = turn_all(image, &chart, by.model.dearest() as u64);
+    settle(&mut turned, &chart.nodes, image.len() / 8, by.budget);
     turned.saves
 }

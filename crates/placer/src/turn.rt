@@ -4,14 +4,16 @@ ghost use Rattle.isa.specs.Lawful.{Lawful};
 ghost use Rattle.pricing.specs.Model.{Model};
 ghost use Rattle.paths.specs.Net.{node_at};
 ghost use Rattle.walks.specs.ImageGraph.{graph_of};
+ghost use Rattle.search.specs.Reach.{Reaches, Tells};
 ghost use Rattle.tables.specs.Node.{Tabled};
+ghost use Rattle.tables.specs.Start.{way_net, Begins};
 ghost use Rattle.placer.specs.Turn.{idles_in};
 ghost use Rattle.placer.specs.Turned.{marked, turned_node, turned_start, Turns};
 
 use crate::turned::Turned;
 use isa::instruction::Role;
 use paths::node::{Node, Successors};
-use tables::start::{reached_in, starts_of};
+use tables::chart::Chart;
 use tables::table::table_of;
 use walks::image_graph::role_at;
 
@@ -23,7 +25,7 @@ fn is_idle(image: &[u8], at: u16) -> bool
 }
 
 // Which slots are idle.
-pub(crate) fn idle_slots(image: &[u8]) -> [bool; 1024]
+fn idle_slots(image: &[u8]) -> [bool; 1024]
     ensures { Tabled false result (idles_in image.now) 1024 }
 {
     table_of(|at| is_idle(image, at))
@@ -55,23 +57,23 @@ fn turned_start(
     starts[at] || at > 0 && idle[at - 1] && reached[at - 1]
 }
 
-// The tables of an image with every idle slot turned into a save.
-pub(crate) fn turn_all(
-    image: &[u8],
-    idle: &[bool; 1024],
-    plain: &[Node; 1024],
-    saving: u64,
-) -> Turned
+// The tables of an image with every idle slot turned into a save, by its chart.
+pub(crate) fn turn_all(image: &[u8], chart: &Chart, saving: u64) -> Turned
     requires lawful { Lawful image.now }
-    requires idle { Tabled false idle.now (idles_in image.now) 1024 }
-    ensures turns { (m : Model) → Turns saving (graph_of m image.now) plain.now result }
-    ensures saves { result.saves ≡ idle.now }
+    requires starts { Tells chart.now.starts (Begins image.now) }
+    requires reached { Tells chart.now.reached (Reaches (way_net image.now) 0) }
+    ensures turns { (m : Model) → Turns saving (graph_of m image.now) chart.now.nodes result }
+    ensures saves { Tabled false result.saves (idles_in image.now) 1024 }
 {
-    let starts = starts_of(image);
-    let reached = reached_in(image);
+    let idle = idle_slots(image);
+    let Chart {
+        nodes,
+        starts,
+        reached,
+    } = chart;
     Turned {
-        nodes: table_of(|at| turned_node(plain[at as usize], idle[at as usize], saving)),
-        starts: table_of(|at| turned_start(&starts, idle, &reached, at as usize)),
-        saves: *idle,
+        nodes: table_of(|at| turned_node(nodes[at as usize], idle[at as usize], saving)),
+        starts: table_of(|at| turned_start(starts, &idle, reached, at as usize)),
+        saves: idle,
     }
 }

@@ -4,10 +4,11 @@ ghost use Rattle.isa.specs.Image.{instruction_at};
 ghost use Rattle.isa.specs.Lawful.{Lawful};
 ghost use Rattle.paths.specs.Net.{no_node};
 ghost use Rattle.walks.specs.ImageGraph.{graph_of, role_in};
+ghost use Rattle.walks.specs.Walk.{Reachable};
 ghost use Rattle.walks.specs.Certified.{is_save};
-ghost use Rattle.search.specs.Reach.{Tells};
+ghost use Rattle.search.specs.Reach.{Reaches, Tells};
 ghost use Rattle.tables.specs.Node.{Tabled};
-ghost use Rattle.tables.specs.Start.{Begins};
+ghost use Rattle.tables.specs.Start.{way_net, Begins};
 ghost use Rattle.tables.specs.Chart.{opened_at, closed, started_after, charted_at, ChartOf};
 
 use crate::node::successors_of;
@@ -23,6 +24,8 @@ pub struct Chart {
     // Stays: one for each of the device's 1,024 slots, and a library has no heap.
     pub nodes: [Node; 1024],
     pub starts: [bool; 1024],
+    // along all ways out, those of saves too
+    pub reached: [bool; 1024],
 }
 
 // A slot with all its ways out, and its price; no node where it has no legal
@@ -88,19 +91,27 @@ fn starts_after(saves: &[bool], reached: &[bool; 1024]) -> [bool; 1024]
 }
 
 impl Chart {
-    // The nodes as walks go along them, and the slots that walks start from.
+    // The nodes as walks go along them, the slots that walks start from, and those
+    // that slot 0 reaches.
     pub fn of<M: PriceModel>(image: &[u8], model: &M) -> Chart
         ensures nodes { Tabled no_node result.nodes (λ i. charted_at (M.PriceModel.means model.now) i (instruction_at image.now i)) 1024 }
         ensures size { length result.starts ≡ 1024 }
         ensures starts { Tells result.starts (Begins image.now) }
+        ensures reached { Tells result.reached (Reaches (way_net image.now) 0) }
+        ensures reachable { Lawful image.now → Tells result.reached (Reachable (graph_of (M.PriceModel.means model.now) image.now)) }
         ensures lawful { Lawful image.now → ChartOf (graph_of (M.PriceModel.means model.now) image.now) result.nodes result.starts }
     {
         let mut nodes = [Node::default(); 1024];
         let mut saves = [false; 1024];
         open(image, model, &mut nodes, &mut saves);
         let saves = &saves[..image.len().min(8192) / 8];
-        let starts = starts_after(saves, &reach_from(&nodes, 0));
+        let reached = reach_from(&nodes, 0);
+        let starts = starts_after(saves, &reached);
         close(&mut nodes, saves);
-        Chart { nodes, starts }
+        Chart {
+            nodes,
+            starts,
+            reached,
+        }
     }
 }

@@ -1,7 +1,7 @@
 use Rattle.std.proofs.Common.{ℕ, Bool, cond, ap, subst, ◌∙◌}
 use Rattle.walks.specs.ImageGraph.{graph_of}
 use Rattle.walks.specs.Placing.{allowed, dropped}
-use Rattle.placer.specs.Turned.{marked, Turns}
+use Rattle.placer.specs.Turned.{Turns}
 use Rattle.placer.proofs.Settling.{plain_of}
 use Rattle.placer.proofs.Turning.{idle_all}
 use Rattle.placer.proofs.settle.saves_in.Goals as goal
@@ -11,13 +11,13 @@ returns g c n =
     let by = c.args.by.now in
     let m = g.M.PriceModel.means by.model.now in
     let image = c.args.image.now in
-    let lawful = c.requires.lawful in
+    let lawful = c.requires in
     let h = graph_of m image in
     let ok = allowed m.dearest h by.budget in
-    let nodes = c.walk_table-plain.result in
+    let nodes = c.of-chart.result.nodes in
     let turned = c.turn_all-turned in
-    let plain = plain_of m (g.met.M.PriceModel.bounded by.model.now) image lawful nodes (c.walk_table-plain.ensures.described lawful) in
+    let plain = plain_of m (g.met.M.PriceModel.bounded by.model.now) image lawful nodes c.of-chart.result.starts (c.of-chart.ensures.lawful lawful) in
     let turns = subst (λ (s : ℕ). Turns s h nodes turned.result) c.dearest.ensures (turned.ensures.turns m) in
     ap (λ (P : ℕ → Bool). P n) (c.settle.ensures m.dearest h plain turns)
     ∙ ap (λ (P : ℕ → Bool). cond (ok P) (dropped ok h.size 0 P) P n)
-    (ap marked turned.ensures.saves ∙ idle_all image lawful c.args.idle.now c.requires.idle)
+    (idle_all image lawful turned.result.saves turned.ensures.saves)

@@ -1,5 +1,5 @@
 use Rattle.std.proofs.Common.{ℕ, ◌/◌, take, ap}
-use Rattle.tables.proofs.Describing.{starts_told, reaches_told, begins_told}
+use Rattle.tables.proofs.Describing.{reached_told, starts_told, reaches_told, begins_told}
 use Rattle.tables.proofs.Charting.{saves_in, charted, started_charted, opened_ways, chart_described, chart_ends}
 use Rattle.tables.proofs.chart.Chart.of.Goals as goal
 
@@ -13,13 +13,15 @@ returns g c =
     let saves = saves_in image c.open.new.saves count (ap (λ (n : ℕ). n / 8) c.min.ensures) c.open.ensures.saves in
     let nodes = charted m image (take count c.open.new.saves) c.close.array_long c.open.ensures.nodes saves c.close.ensures in
     let reached = reaches_told image opened c.open.ensures.nodes.size (opened_ways m image opened c.open.ensures.nodes)
-    c.reach_from.result c.reach_from.ensures in
-    let begins = begins_told image c.reach_from.result reached starts
-    (started_charted image (take count c.open.new.saves) c.reach_from.result saves starts c.starts_after-starts.ensures) in
+    c.reach_from-reached.result c.reach_from-reached.ensures in
+    let begins = begins_told image c.reach_from-reached.result reached starts
+    (started_charted image (take count c.open.new.saves) c.reach_from-reached.result saves starts c.starts_after-starts.ensures) in
     record {
       nodes = nodes;
       size = c.starts_after-starts.ensures.size;
       starts = begins;
+      reached = reached;
+      reachable = λ lawful. reached_told m image lawful c.reach_from-reached.result reached;
       lawful = λ lawful. record {
         described = chart_described m image lawful c.close.new.nodes nodes;
         beyond = chart_ends m image lawful c.close.new.nodes nodes;

@@ -30,6 +30,7 @@ fn apply_at_width(width: Width, operation: Operation, dst: u64, source: u64) -> 
 
 // What an operation leaves in dst. At 32 bits the high half is cleared.
 // Stays: a struct of width and operands would be made for one call and taken apart there.
+#[inline(always)]
 pub fn apply(width: Width, operation: Operation, dst: u64, source: u64) -> u64
     ensures { result ≡ applied width operation dst source }
 {

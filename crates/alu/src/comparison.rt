@@ -29,6 +29,7 @@ fn holds_at_width(width: Width, test: Test, dst: u64, source: u64) -> bool
 // Whether a test holds of dst and the source value.
 // Stays: a struct of width and operands would be made for one call and taken apart there; the match of
 // `apply` alike, as one function of a closure for both is no shorter.
+#[inline(always)]
 pub fn holds(width: Width, test: Test, dst: u64, source: u64) -> bool
     ensures { result ≡ compared width test dst source }
 {

@@ -1,5 +1,6 @@
 // The parts of the machine that work on values: arithmetic, comparisons and
-// memory.
+// memory. The first two are inlined into a step, since a call takes longer than
+// the work.
 #![tactic(auto)]
 
 pub mod arithmetic;

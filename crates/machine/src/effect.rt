@@ -30,6 +30,7 @@ pub enum Effect {
 
 impl State {
     // An instruction with the operands that it has at this state.
+    #[inline(always)]
     pub(crate) fn work(&self, executable: &Executable) -> Work
         ensures { result ≡ work_of executable.now.instruction self.now }
     {

@@ -15,6 +15,7 @@ use isa::kind::{Kind, Operation, Size, Source, Test, Width};
 
 impl State {
     // Stays: a struct of width, operation and source would be made by the match on the kind and taken apart here.
+    #[inline(always)]
     fn compute(
         &mut self,
         executable: &Executable,
@@ -31,6 +32,7 @@ impl State {
         self.go_on(instruction);
     }
 
+    #[inline(always)]
     fn branch(&mut self, executable: &Executable, width: Width, test: Test, source: Source)
         ensures { self.new ≡ branched width test source executable.now.instruction self.old }
     {
@@ -43,6 +45,7 @@ impl State {
         }
     }
 
+    #[inline(always)]
     fn read_from(&mut self, executable: &Executable, size: Size)
         ensures { self.new ≡ read_from size executable.now.instruction self.old }
     {
@@ -57,6 +60,7 @@ impl State {
         }
     }
 
+    #[inline(always)]
     fn write_to(&mut self, executable: &Executable, size: Size, value: u64)
         ensures { self.new ≡ written_to size value executable.now.instruction self.old }
     {
@@ -99,6 +103,7 @@ impl State {
         }
     }
 
+    #[inline(always)]
     fn call(&mut self, instruction: Instruction, tape: &[u32])
         ensures { self.new ≡ called tape.now instruction self.old }
     {
@@ -110,6 +115,7 @@ impl State {
         }
     }
 
+    #[inline(always)]
     pub(crate) fn execute(&mut self, executable: &Executable, tape: &[u32])
         ensures { self.new ≡ executed tape.now executable.now.instruction self.old }
     {

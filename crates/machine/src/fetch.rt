@@ -10,6 +10,7 @@ const MOST_SLOTS: i32 = 1024;
 
 // The legal instruction at a slot, or none: a jump can lead below 0 or past
 // the image.
+#[inline(always)]
 pub(crate) fn fetch(image: &[u8], slot: i32) -> Option<Instruction>
     ensures value { result ≡ fetched image.now slot }
     ensures registers { IfSome result Registered }

@@ -1,5 +1,6 @@
 // The machine that runs a reading round without interruption: its state, one
-// step, and a run.
+// step, and a run. What most steps go through is inlined, since the calls took
+// longer than the work.
 #![tactic(auto)]
 
 pub mod effect;

@@ -41,6 +41,7 @@ impl State {
     }
 
     // The two operands that the price of an instruction may depend on.
+    #[inline(always)]
     pub(crate) fn operands(&self, executable: &Executable) -> (u64, u64)
         ensures { result ≡ operands_of executable.now.instruction.kind executable.now.instruction self.now }
     {

@@ -11,6 +11,7 @@ use crate::state::State;
 
 impl State {
     // Executes an instruction, and tells its effect.
+    #[inline(always)]
     fn execute_and_tell(&mut self, executable: &Executable, tape: &[u32]) -> Effect
         ensures left { self.new ≡ executed tape.now executable.now.instruction self.old }
         ensures effect { result ≡ effect_by executable.now.instruction tape.now self.old }
@@ -24,6 +25,7 @@ impl State {
     // One step: executes the instruction at the slot, and tells what it was. A
     // run that has ended stays as it is.
     #[tactic(auto, using(crate::proofs::Stepping::stepped), unfolding(crate::specs::Step::mains_step, crate::specs::Step::mains_effect))]
+    #[inline(always)]
     pub fn step(&mut self, image: &[u8], tape: &[u32]) -> Effect
         ensures left { self.new ≡ mains_step image.now tape.now self.old }
         ensures effect { result ≡ mains_effect image.now tape.now self.old }

@@ -8,6 +8,7 @@ use Rattle.isa.specs.Lawful.{Lawful}
 use Rattle.machine.specs.declared.state.State.{State}
 use Rattle.machine.specs.Reading.{record_in}
 use Rattle.machine.specs.Run.{mains}
+use Rattle.machine.specs.State.{ending_of}
 use Rattle.machine.specs.Step.{mains_effect, is_save}
 use Rattle.pricing.specs.Model.{Model, Bounded}
 use Rattle.walks.specs.ImageGraph.{graph_of}
@@ -23,7 +24,7 @@ abbrev pub round_of : Model → List ℕ → List ℕ → Machine State
 round_of d image tape =
     record {
       run = mains image tape;
-      ending = λ σ. σ.ending;
+      ending = ending_of;
       record_at = record_in;
       saves = λ σ. is_save (mains_effect image tape σ);
       amount = amount_of d image tape;

@@ -70,6 +70,14 @@ module _ (σ : State) (goes : ended σ ≡ false) where
   stepped_alone (Some x) tape = executed_alone x.kind tape x
   stepped_alone None tape = stopping (ending.Trap BadSlot)
 
+-- an ending's number says that the state has ended
+has_ended : (σ : State) (e : Ending) → ended (ended_by σ e) ≡ true
+has_ended σ (ending.Trap BadSlot) = refl
+has_ended σ (ending.Trap OutsideMemory) = refl
+has_ended σ (ending.Trap TapeFinished) = refl
+has_ended σ (ending.Trap LogFull) = refl
+has_ended σ ending.Exit = refl
+
 -- a state that has not ended stands at a way out that a kind of instruction has
 Follows : Kind → Instruction → State → Type 0
 Follows k x τ =
@@ -78,7 +86,7 @@ Follows k x τ =
 module _ (σ : State) (x : Instruction) where
   stopped : (k : Kind) (e : Ending) → Follows k x (ended_by σ e)
   unfolding Follows
-  stopped k e goes = cc
+  stopped k e goes = let over = has_ended σ e in cc
 
   follows_either : (k : Kind) (b : Bool) (τ υ : State) → Follows k x τ → Follows k x υ → Follows k x (cond b τ υ)
   follows_either k true τ υ p q = p

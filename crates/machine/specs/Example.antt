@@ -7,6 +7,7 @@ use Rattle.machine.specs.declared.state.State.{State}
 use Rattle.machine.specs.Process.{EndsAfter}
 use Rattle.machine.specs.Run.{mains}
 use Rattle.machine.specs.Reading.{record_in}
+use Rattle.machine.specs.State.{ending_of}
 
 abbrev pub small_round : List ℕ
 small_round =
@@ -20,6 +21,6 @@ small_round =
 pub record Known (image : List ℕ) : Type 0 where
   pub last : State
   pub ends : EndsAfter (mains image (5 ∷ [])) 6 last
-  pub exits : last.ending ≡ Some Exit
+  pub exits : ending_of last ≡ Some Exit
   pub logs : record_in last 0 ≡ Some (record { sensor = 7; value = 5 })
   pub no_more : record_in last 1 ≡ None

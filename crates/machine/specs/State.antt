@@ -7,11 +7,13 @@
 --     with_place σ n           σ at another place of the tape
 --     with_record σ x          σ with one more record in its log
 --     ended_by σ e             σ with an ending, and nothing else changed
+--     ending_of σ              how σ has ended, or none
 --     ended σ                  σ has an ending
-use Rattle.std.specs.Prelude.{ℕ, ◌+◌, Bool, List, replicate, ℤ, pos, is_some, Some, None, slice_index, slice_set}
+use Rattle.std.specs.Prelude.{ℕ, ◌+◌, Bool, not, List, replicate, ℤ, pos, Option, nat_eq, slice_index, slice_set}
 use Rattle.machine.specs.declared.ending.Ending.{Ending}
 use Rattle.machine.specs.declared.state.Record.{Record}
 use Rattle.machine.specs.declared.state.State.{State}
+use Rattle.machine.specs.Ending.{ending_number, ending_in}
 
 abbrev pub empty : Record
 empty = record { sensor = 0; value = 0 }
@@ -25,14 +27,17 @@ initial =
       place = 0;
       log = replicate 64 empty;
       logged = 0;
-      ending = None;
+      ending = 0;
     }
 
 abbrev pub register_of : State → ℕ → ℕ
 register_of σ r = slice_index σ.regs r
 
+abbrev pub ending_of : State → Option Ending
+ending_of σ = ending_in σ.ending
+
 abbrev pub ended : State → Bool
-ended σ = is_some σ.ending
+ended σ = not (nat_eq σ.ending 0)
 
 abbrev pub moved_to : State → ℤ → State
 moved_to σ z =
@@ -56,4 +61,4 @@ with_record σ x =
 
 abbrev pub ended_by : State → Ending → State
 ended_by σ e =
-    record { slot = σ.slot; regs = σ.regs; memory = σ.memory; place = σ.place; log = σ.log; logged = σ.logged; ending = Some e }
+    record { slot = σ.slot; regs = σ.regs; memory = σ.memory; place = σ.place; log = σ.log; logged = σ.logged; ending = ending_number e }

@@ -1,9 +1,9 @@
 // Reading a state from outside.
-ghost use Rattle.std.specs.Prelude.{◌≡◌};
+ghost use Rattle.std.specs.Prelude.{◌≡◌, is_some};
 ghost use Rattle.machine.specs.Reading.{register_in, byte_in, record_in};
-ghost use Rattle.machine.specs.State.{ended};
+ghost use Rattle.machine.specs.State.{ending_of, ended};
 
-use crate::ending::Ending;
+use crate::ending::{Ending, GOES_ON, ending_in};
 use crate::state::{LOG, Record, State};
 
 impl State {
@@ -50,14 +50,15 @@ impl State {
 
     // How the run ended, or none while it goes on.
     pub fn ending(&self) -> Option<Ending>
-        ensures { result ≡ self.now.ending }
+        ensures { result ≡ ending_of self.now }
     {
-        self.ending
+        ending_in(self.ending)
     }
 
     pub fn ended(&self) -> bool
-        ensures { result ≡ ended self.now }
+        ensures value { result ≡ ended self.now }
+        ensures told { result ≡ is_some (ending_of self.now) }
     {
-        self.ending.is_some()
+        self.ending != GOES_ON
     }
 }

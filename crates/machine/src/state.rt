@@ -3,7 +3,7 @@ ghost use Rattle.std.specs.Prelude.{◌≡◌, ◌≤◌};
 ghost use Rattle.isa.specs.Instruction.{next_of, target_of};
 ghost use Rattle.machine.specs.State.{initial, register_of, moved_to, with_register, ended_by};
 
-use crate::ending::Ending;
+use crate::ending::{Ending, GOES_ON};
 use alu::memory::MEMORY;
 use isa::instruction::Instruction;
 
@@ -21,10 +21,14 @@ pub struct Record {
 }
 
 // Any numbers are a state, so whoever stores one may make it again of its parts.
+// Callers in C hold states, so the layout is C's.
+#[repr(C)]
 #[derive(Clone, Copy, PartialEq, Eq)]
 pub struct State {
     // a jump can lead below 0 or past the image
     pub slot: i32,
+    // Stays a number: of an `Option<Ending>` in memory of C not every byte would be one.
+    pub ending: u8,
     pub regs: [u64; REGISTERS],
     pub memory: [u8; MEMORY],
     // how many readings of the tape were taken
@@ -32,7 +36,6 @@ pub struct State {
     // Stays: the device has room for so many, and a state is copied, which an `ArrayVec` is not.
     pub log: [Record; LOG],
     pub logged: usize,
-    pub ending: Option<Ending>,
 }
 
 impl State {
@@ -44,6 +47,7 @@ impl State {
         regs[10] = MEMORY as u64;
         State {
             slot: 0,
+            ending: GOES_ON,
             regs,
             memory: [0; MEMORY],
             place: 0,
@@ -52,7 +56,6 @@ impl State {
                 value: 0,
             }; LOG],
             logged: 0,
-            ending: None,
         }
     }
 
@@ -87,6 +90,6 @@ impl State {
     pub(crate) fn end(&mut self, ending: Ending)
         ensures { self.new ≡ ended_by self.old ending }
     {
-        self.ending = Some(ending);
+        self.ending = ending.number();
     }
 }

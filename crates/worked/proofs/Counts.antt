@@ -2,7 +2,7 @@
 use Rattle.std.proofs.Common.{◌≡◌, ℕ, ◌+◌, ◌-◌, ◌%◌, ◌^◌, List, ◌∷◌, Some, refl, ap, ◌∙◌}
 use Rattle.isa.specs.Opcode.{kind_of, singles, classes, joined, access, branch, arithmetic, negation, sizes, tests, operations, under, source_of, code_of, class_of}
 use Rattle.machine.specs.declared.ending.Ending.TheVariants.{Exit}
-use Rattle.machine.specs.State.{initial}
+use Rattle.machine.specs.State.{initial, ending_of}
 use Rattle.machine.specs.Step.{mains_step, mains_effect}
 use Rattle.supply.specs.Capacitor.{Condition, fresh}
 use Rattle.claims.specs.declared.call.Call.{Call}
@@ -18,7 +18,7 @@ record Told (w : Bare) (charges saves attempts : ℕ) : Type 0 where
   pub charges_are : charges_of w ≡ charges
   pub saves_are : w.saves ≡ saves
   pub attempts_are : w.attempts ≡ attempts
-  pub exits : w.kept.ending ≡ Some Exit
+  pub exits : ending_of w.kept ≡ Some Exit
 
 abbrev last : List Call → Bare
 last cs = course round cs (first initial (fresh small))

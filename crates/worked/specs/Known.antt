@@ -10,6 +10,7 @@
 use Rattle.std.specs.Prelude.{◌≡◌, ℕ, zero, suc, List, [], ◌∷◌, replicate, Some}
 use Rattle.machine.specs.declared.ending.Ending.TheVariants.{Exit}
 use Rattle.machine.specs.declared.state.State.{State}
+use Rattle.machine.specs.State.{ending_of}
 use Rattle.pricing.specs.Flat.{flat}
 use Rattle.supply.specs.declared.capacitor.Capacitor.{Capacitor}
 use Rattle.supply.specs.declared.supply.Supply.{Ghosts}
@@ -52,7 +53,7 @@ pub record Ends (charges saves attempts : ℕ) (r : Rig Capacitor State) : Type 
   pub charges_are : begun capacitors r ≡ charges
   pub saves_are : r.saves ≡ saves
   pub attempts_are : r.attempts ≡ attempts
-  pub exits : r.kept.ending ≡ Some Exit
+  pub exits : ending_of r.kept ≡ Some Exit
 
 abbrev pub Known : List Call → ℕ → ℕ → ℕ → Type 0
 Known cs charges saves attempts =

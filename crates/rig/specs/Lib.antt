@@ -1,6 +1,6 @@
+pub mod Attempt
 pub mod Limit
 pub mod Parts
-pub mod Plan
 pub mod Rehearsal
 pub mod Seen
 pub mod Watch

@@ -5,6 +5,7 @@ ghost use Rattle.rig.specs.Seen.{seen};
 
 use crate::charge::charge;
 use crate::rig::Rig;
+use crate::standing::Standing;
 use machine::state::State;
 use supply::supply::Supply;
 
@@ -16,14 +17,14 @@ impl<S: Supply> Rig<S> {
         let before = supply.charges();
         charge(&mut supply);
         let first = State::new();
-        Rig {
-            supply,
+        let standing = Standing {
             state: first,
             kept: first,
             before,
             saves: 0,
             cuts: 0,
             attempts: 0,
-        }
+        };
+        Rig { supply, standing }
     }
 }

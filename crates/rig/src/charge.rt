@@ -1,8 +1,8 @@
 // What begins a charge.
 ghost use Rattle.claims.specs.Rig.{Charged, FellBack};
-ghost use Rattle.rig.specs.Seen.{seen};
+ghost use Rattle.rig.specs.Seen.{rig_on};
 
-use crate::rig::Rig;
+use crate::standing::Standing;
 use supply::supply::Supply;
 
 pub(crate) fn charge<S: Supply>(supply: &mut S)
@@ -11,12 +11,12 @@ pub(crate) fn charge<S: Supply>(supply: &mut S)
     supply.recharge();
 }
 
-impl<S: Supply> Rig<S> {
+impl Standing {
     // A charge begins, and the kept state returns.
-    pub(crate) fn fall_back(&mut self)
-        ensures { FellBack S.Supply (seen self.old) (seen self.new) }
+    pub(crate) fn fall_back<S: Supply>(&mut self, supply: &mut S)
+        ensures { FellBack S.Supply (rig_on supply.old self.old) (rig_on supply.new self.new) }
     {
-        charge(&mut self.supply);
+        charge(supply);
         self.state = self.kept;
     }
 }

@@ -1,2 +1,3 @@
 mod Claiming
 mod Telling
+mod Whole

@@ -1,10 +1,10 @@
--- Plain numbers tell one state, one supply and one rig.
+-- Plain numbers tell one supply and one rig.
 use Rattle.std.proofs.Common.{◌≡◌, ℕ, ◌≤◌, ◌∙◌, sym, ap, ap₂, subst, arith}
 use Rattle.std.specs.Coded.{le_prop}
 use Rattle.machine.specs.declared.state.State.{State}
 use Rattle.claims.specs.Rig.{Rig}
-use Rattle.rig.specs.declared.rig.Rig.{Rig as HeldRig}
-use Rattle.rig.specs.Seen.{seen}
+use Rattle.rig.specs.declared.standing.Standing.{Standing}
+use Rattle.rig.specs.Seen.{rig_on}
 use Rattle.supply.specs.declared.capacitor.Capacitor.{Capacitor}
 use Rattle.supply.specs.declared.mains.Mains.{Mains}
 use Rattle.supply.specs.declared.ratings.Ratings.{Ratings as Held}
@@ -14,17 +14,13 @@ use Rattle.yatesorrel_c.specs.declared.held.PlainRig.{PlainRig}
 use Rattle.supply.specs.declared.source.Source.{Source}
 use Rattle.supply.specs.declared.source.Source.TheVariants as source
 use Rattle.yatesorrel_c.specs.declared.supplies.PlainSupply.{PlainSupply}
-use Rattle.yatesorrel_c.specs.State.{plain_state}
 use Rattle.yatesorrel_c.specs.Supplies.{plain_capacitor, plain_supply, plain_mains}
-use Rattle.yatesorrel_c.specs.Held.{plain_rig, numbers_of}
+use Rattle.yatesorrel_c.specs.Held.{plain_rig, Whole, Unbegun}
 
 pub neither : (p : PlainSupply) → ((x : Capacitor) → p ≡ plain_capacitor x → ⊥) → ((x : Mains) → p ≡ plain_mains x → ⊥)
     → (s : Source) → p ≡ plain_supply s → ⊥
 neither p c m (source.Capacitor x) e = c x e
 neither p c m (source.Mains x) e = m x e
-
-pub one_state : (σ τ : State) → plain_state σ ≡ plain_state τ → σ ≡ τ
-one_state σ τ e = grind arith
 
 -- facts about ratings have one proof, so their numbers tell them
 within_prop : (n : Ratings) → IsProp (Within n)
@@ -81,12 +77,12 @@ one_source (source.Mains x) (source.Mains y) e = ap (λ z. source.Mains z) (one_
 pub one_rig : (r s : Rig Source State) → plain_rig r ≡ plain_rig s → r ≡ s
 one_rig r s e =
     let supplies : r.supply ≡ s.supply = one_source _ _ (ap (λ (p : PlainRig). p.supply) e) in
-    let states : r.state ≡ s.state = one_state _ _ (ap (λ (p : PlainRig). p.state) e) in
-    let kept : r.kept ≡ s.kept = one_state _ _ (ap (λ (p : PlainRig). p.kept) e) in
-    let before : r.before ≡ s.before = ap (λ (p : PlainRig). p.before) e in
-    let saves : r.saves ≡ s.saves = ap (λ (p : PlainRig). p.saves) e in
-    let cuts : r.cuts ≡ s.cuts = ap (λ (p : PlainRig). p.cuts) e in
-    let attempts : r.attempts ≡ s.attempts = ap (λ (p : PlainRig). p.attempts) e in
+    let states : r.state ≡ s.state = ap (λ (p : PlainRig). p.standing.state) e in
+    let kept : r.kept ≡ s.kept = ap (λ (p : PlainRig). p.standing.kept) e in
+    let before : r.before ≡ s.before = ap (λ (p : PlainRig). p.standing.before) e in
+    let saves : r.saves ≡ s.saves = ap (λ (p : PlainRig). p.standing.saves) e in
+    let cuts : r.cuts ≡ s.cuts = ap (λ (p : PlainRig). p.standing.cuts) e in
+    let attempts : r.attempts ≡ s.attempts = ap (λ (p : PlainRig). p.standing.attempts) e in
     λ i. record {
       supply = supplies i;
       state = states i;
@@ -98,6 +94,17 @@ one_rig r s e =
     }
 
 -- so what holds of a rig that they are of holds of any such rig
-pub of_rig : (P : Rig Source State → Type 0) (p : PlainRig) (h : HeldRig Source) → p ≡ numbers_of h → P (seen h)
-    → (r : HeldRig Source) → p ≡ numbers_of r → P (seen r)
-of_rig P p h e x r f = subst P (one_rig _ _ (sym e ∙ f)) x
+pub of_rig : (P : Rig Source State → Type 0) (p : PlainRig) (q : Rig Source State) → p ≡ plain_rig q → P q
+    → (r : Rig Source State) → p ≡ plain_rig r → P r
+of_rig P p q e x r f = subst P (one_rig _ _ (sym e ∙ f)) x
+
+-- and numbers that are those of a rig are not those of none
+pub begun : {A : Type 0} (p : PlainRig) (s : Source) → Whole (rig_on s p.standing) × (p ≡ plain_rig (rig_on s p.standing)) → Unbegun p → A
+begun p s e none = absurd (none _ e.0 e.1)
+
+-- a rig whose supply is written back has the plain numbers of the rig that stands there
+abbrev pub lying : PlainSupply → Standing → PlainRig
+lying p t = record { supply = p; standing = t }
+
+pub written : (p : PlainSupply) (s : Source) (t : Standing) → p ≡ plain_supply s → lying p t ≡ plain_rig (rig_on s t)
+written p s t e = ap (λ (q : PlainSupply). lying q t) e

@@ -11,20 +11,18 @@ use Rattle.claims.specs.declared.reply.Attempt.{Attempt}
 use Rattle.claims.specs.declared.reply.Attempt.TheVariants.{No, Yes, Ended}
 use Rattle.claims.specs.Rig.{Rig, Stepped}
 use Rattle.claims.specs.Round.{round_of}
-use Rattle.rig.specs.declared.rig.Rig.{Rig as Held}
-use Rattle.rig.specs.Seen.{seen}
 use Rattle.supply.specs.declared.source.Source.{Source}
 use Rattle.yatesorrel_c.specs.declared.told.Own.{Own}
 use Rattle.yatesorrel_c.specs.declared.held.PlainRig.{PlainRig}
 use Rattle.yatesorrel_c.specs.declared.attempt.PlainAttempt.{PlainAttempt}
 use Rattle.yatesorrel_c.specs.Told.{told_in, own_told}
-use Rattle.yatesorrel_c.specs.State.{plain_ending}
-use Rattle.yatesorrel_c.specs.Held.{numbers_of, sources}
+use Rattle.yatesorrel_c.specs.State.{ending_number_in}
+use Rattle.yatesorrel_c.specs.Held.{plain_rig, Whole, sources}
 
 abbrev pub attempt_in : Result Attempt Refusal → PlainAttempt
 attempt_in (Ok No) = record { refusal = told_in None; said_yes = 0; ending = 0 }
 attempt_in (Ok Yes) = record { refusal = told_in None; said_yes = 1; ending = 0 }
-attempt_in (Ok (Ended e)) = record { refusal = told_in None; said_yes = 1; ending = plain_ending (Some e) }
+attempt_in (Ok (Ended e)) = record { refusal = told_in None; said_yes = 1; ending = ending_number_in (Some e) }
 attempt_in (Err r) = record { refusal = told_in (Some r); said_yes = 0; ending = 0 }
 
 abbrev pub own_attempt : Own → PlainAttempt
@@ -32,7 +30,8 @@ own_attempt o = record { refusal = own_told o; said_yes = 0; ending = 0 }
 
 pub record AttemptDone (m : Model) (image tape : List ℕ) (r : Rig Source State) (p : PlainRig) (a : PlainAttempt) : Type 0 where
   pub answer : Result Attempt Refusal
-  pub left : Held Source
-  pub stepped : Stepped sources (round_of m image tape) r answer (seen left)
-  pub written : p ≡ numbers_of left
+  pub left : Rig Source State
+  pub whole : Whole left
+  pub stepped : Stepped sources (round_of m image tape) r answer left
+  pub written : p ≡ plain_rig left
   pub told : a ≡ attempt_in answer

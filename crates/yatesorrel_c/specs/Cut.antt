@@ -6,17 +6,16 @@ use Rattle.isa.specs.declared.refusal.Refusal.{Refusal}
 use Rattle.machine.specs.declared.state.State.{State}
 use Rattle.machine.specs.State.{ended}
 use Rattle.claims.specs.Rig.{Rig, CutDone}
-use Rattle.rig.specs.declared.rig.Rig.{Rig as Held}
-use Rattle.rig.specs.Seen.{seen}
 use Rattle.supply.specs.declared.source.Source.{Source}
 use Rattle.yatesorrel_c.specs.declared.told.PlainTold.{PlainTold}
 use Rattle.yatesorrel_c.specs.declared.held.PlainRig.{PlainRig}
 use Rattle.yatesorrel_c.specs.Told.{told_in}
-use Rattle.yatesorrel_c.specs.Held.{numbers_of, sources}
+use Rattle.yatesorrel_c.specs.Held.{plain_rig, Whole, sources}
 
 pub record CutTold (r : Rig Source State) (p : PlainRig) (t : PlainTold) : Type 0 where
   pub answer : Result (Unit {0}) Refusal
-  pub left : Held Source
-  pub cut : CutDone sources ended r answer (seen left)
-  pub written : p ≡ numbers_of left
+  pub left : Rig Source State
+  pub whole : Whole left
+  pub cut : CutDone sources ended r answer left
+  pub written : p ≡ plain_rig left
   pub told : t ≡ told_in (result_err answer)

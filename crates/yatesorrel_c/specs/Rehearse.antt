@@ -16,8 +16,6 @@ use Rattle.claims.specs.Claims.{Claims}
 use Rattle.claims.specs.History.{History, Always}
 use Rattle.claims.specs.Rig.{Rig}
 use Rattle.claims.specs.Round.{round_of}
-use Rattle.rig.specs.declared.rig.Rig.{Rig as Held}
-use Rattle.rig.specs.Seen.{seen}
 use Rattle.supply.specs.declared.source.Source.{Source}
 use Rattle.yatesorrel_c.specs.declared.told.Own.{Own}
 use Rattle.yatesorrel_c.specs.declared.told.PlainTold.{PlainTold}
@@ -25,7 +23,7 @@ use Rattle.yatesorrel_c.specs.declared.held.PlainRig.{PlainRig}
 use Rattle.yatesorrel_c.specs.declared.script.PlainCall.{PlainCall}
 use Rattle.yatesorrel_c.specs.declared.script.PlainReply.{PlainReply}
 use Rattle.yatesorrel_c.specs.Told.{told_in, own_told}
-use Rattle.yatesorrel_c.specs.Held.{numbers_of, sources}
+use Rattle.yatesorrel_c.specs.Held.{plain_rig, Whole, sources}
 use Rattle.yatesorrel_c.specs.Script.{call_in, reply_in}
 
 pub record Refused (o : Own) (before after : List PlainReply) (old new : PlainRig) (t : PlainTold) : Type 0 where
@@ -45,7 +43,8 @@ pub record Rehearsed {S : Type 0} (G : Ghosts S) (m : Model) (image tape : List 
       → Always (Claims G (round_of m image tape)) history
 
 pub record ScriptDone (m : Model) (image tape : List ℕ) (s : Source) (calls : List PlainCall) (before after : List PlainReply) (p : PlainRig) (t : PlainTold) : Type 0 where
-  pub left : Held Source
-  pub rehearsed : Rehearsed sources m image tape s calls before after (seen left)
-  pub written : p ≡ numbers_of left
+  pub left : Rig Source State
+  pub whole : Whole left
+  pub rehearsed : Rehearsed sources m image tape s calls before after left
+  pub written : p ≡ plain_rig left
   pub told : t ≡ told_in None

@@ -3,7 +3,7 @@
 --     no_work            an instruction of zeros, where there is none
 --     step_in e          what is told of a step of the effect e
 --     own_step o         what is told where the call from C refuses by itself
---     StepDone image tape σ p a     a step at σ left the plain numbers p, and a tells its effect
+--     StepDone image tape σ τ a     a step at σ left τ, whose ending is one that a run comes to, and a tells its effect
 use Rattle.std.specs.Prelude.{◌≡◌, ℕ, List, pos, None}
 use Rattle.machine.specs.declared.effect.Effect.{Effect}
 use Rattle.machine.specs.declared.effect.Effect.TheVariants.{Nothing, NoInstruction, Save, End, Other}
@@ -13,9 +13,8 @@ use Rattle.machine.specs.Step.{mains_step, mains_effect, StepLaws}
 use Rattle.yatesorrel_c.specs.declared.told.Own.{Own}
 use Rattle.yatesorrel_c.specs.declared.told.PlainTold.{PlainTold}
 use Rattle.yatesorrel_c.specs.declared.run.PlainStep.{PlainStep}
-use Rattle.yatesorrel_c.specs.declared.state.PlainState.{PlainState}
 use Rattle.yatesorrel_c.specs.Told.{told_in, own_told}
-use Rattle.yatesorrel_c.specs.State.{plain_state}
+use Rattle.yatesorrel_c.specs.State.{Known}
 
 abbrev pub step_of : PlainTold → ℕ → Work → PlainStep
 step_of t d x = record { refusal = t; did = d; opcode = x.opcode; imm = x.imm; a = x.a; b = x.b }
@@ -33,7 +32,8 @@ step_in (Other x) = step_of (told_in None) 4 x
 abbrev pub own_step : Own → PlainStep
 own_step o = step_of (own_told o) 0 no_work
 
-pub record StepDone (image tape : List ℕ) (σ : State) (p : PlainState) (a : PlainStep) : Type 0 where
-  pub left : p ≡ plain_state (mains_step image tape σ)
+pub record StepDone (image tape : List ℕ) (σ τ : State) (a : PlainStep) : Type 0 where
+  pub left : τ ≡ mains_step image tape σ
+  pub known : Known τ
   pub told : a ≡ step_in (mains_effect image tape σ)
   pub laws : StepLaws image tape σ

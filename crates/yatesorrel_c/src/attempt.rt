@@ -1,16 +1,17 @@
 // A step of a rig from C.
 ghost use Rattle.std.specs.Prelude.{◌≡◌, IfSome, IfNone};
-ghost use Rattle.rig.specs.Seen.{seen};
-ghost use Rattle.rig.specs.declared.rig.Rig.{Rig as Held};
+ghost use Rattle.claims.specs.Rig.{Rig};
+ghost use Rattle.machine.specs.declared.state.State.{State};
 ghost use Rattle.supply.specs.declared.source.Source.{Source};
 ghost use Rattle.yatesorrel_c.specs.declared.told.Own.TheVariants.{NotBegun, NoPrices};
 ghost use Rattle.yatesorrel_c.specs.Prices.{model_in};
-ghost use Rattle.yatesorrel_c.specs.Held.{numbers_of, Unbegun};
+ghost use Rattle.yatesorrel_c.specs.Held.{plain_rig, Whole, Unbegun};
 ghost use Rattle.yatesorrel_c.specs.Attempt.{attempt_in, own_attempt, AttemptDone};
 
 use crate::held::PlainRig;
 use crate::prices::PlainPrices;
-use crate::state::plain_ending;
+use crate::state::number_in;
+use crate::supplies::PlainSupply;
 use crate::told::{Own, PlainTold};
 use claims::reply::Attempt;
 use claims::round::Round;
@@ -37,7 +38,7 @@ impl PlainAttempt {
         PlainAttempt {
             refusal: PlainTold::of(attempt.err()),
             said_yes,
-            ending: plain_ending(ending),
+            ending: number_in(ending),
         }
     }
 
@@ -61,17 +62,22 @@ pub extern "C" fn yatesorrel_rig_step(
     tape: &[u32],
 ) -> PlainAttempt
     ensures unbegun { Unbegun rig.old → (result ≡ own_attempt NotBegun) × (rig.new ≡ rig.old) }
-    ensures unpriced { (r : Held Source) → rig.old ≡ numbers_of r → IfNone (model_in prices.now) ((result ≡ own_attempt NoPrices) × (rig.new ≡ rig.old)) }
-    ensures stepped { (r : Held Source) → rig.old ≡ numbers_of r → IfSome (model_in prices.now) (λ m. AttemptDone m image.now tape.now (seen r) rig.new result) }
+    ensures unpriced { (r : Rig Source State) → Whole r → rig.old ≡ plain_rig r → IfNone (model_in prices.now) ((result ≡ own_attempt NoPrices) × (rig.new ≡ rig.old)) }
+    ensures stepped { (r : Rig Source State) → Whole r → rig.old ≡ plain_rig r → IfSome (model_in prices.now) (λ m. AttemptDone m image.now tape.now r rig.new result) }
 {
-    let Some(mut held) = rig.rig() else {
+    let Some(mut source) = rig.source() else {
         return PlainAttempt::own(Own::NotBegun);
     };
     let Some(prices) = prices.prices() else {
         return PlainAttempt::own(Own::NoPrices);
     };
     let model = &prices;
-    let attempt = held.step(&Round { model, image, tape });
-    *rig = PlainRig::of(held);
+    let Some(attempt) = rig
+        .standing
+        .step(&mut source, &Round { model, image, tape })
+    else {
+        return PlainAttempt::own(Own::NotBegun);
+    };
+    rig.supply = PlainSupply::of(&source);
     PlainAttempt::of(attempt)
 }

@@ -2,22 +2,22 @@
 ghost use Rattle.std.specs.Prelude.{◌≡◌, None};
 ghost use Rattle.machine.specs.Reading.{record_in};
 ghost use Rattle.claims.specs.History.{record_or};
-ghost use Rattle.rig.specs.Seen.{seen};
-ghost use Rattle.rig.specs.declared.rig.Rig.{Rig as Held};
+ghost use Rattle.claims.specs.Rig.{Rig};
+ghost use Rattle.machine.specs.declared.state.State.{State};
+ghost use Rattle.rig.specs.Seen.{rig_on};
 ghost use Rattle.supply.specs.declared.source.Source.{Source};
 ghost use Rattle.yatesorrel_c.specs.declared.told.Own.TheVariants.{NotBegun};
 ghost use Rattle.yatesorrel_c.specs.Told.{told_in, own_told};
-ghost use Rattle.yatesorrel_c.specs.State.{plain_state};
-ghost use Rattle.yatesorrel_c.specs.Held.{numbers_of, Unbegun};
+ghost use Rattle.yatesorrel_c.specs.Held.{plain_rig, Whole, Unbegun};
 ghost use Rattle.yatesorrel_c.specs.Questions.{counts_of, own_counts, kept_record_in, own_kept_record};
 
 use crate::held::PlainRig;
-use crate::state::PlainState;
 use crate::told::{Own, PlainTold};
 use isa::refusal::Refusal;
-use machine::state::Record;
-use rig::rig::Rig;
+use machine::state::{Record, State};
+use rig::standing::Standing;
 use supply::source::Source;
+use supply::supply::Supply;
 
 // What a rig counts, and the charge that its supply is certain to have.
 #[repr(C)]
@@ -45,16 +45,16 @@ pub(crate) const NO_RECORD: Record = Record {
 };
 
 impl PlainCounts {
-    fn of(rig: &Rig<Source>) -> PlainCounts
-        ensures { result ≡ counts_of (seen rig.now) }
+    fn of(source: &Source, standing: &Standing) -> PlainCounts
+        ensures { result ≡ counts_of (rig_on source.now standing.now) }
     {
         PlainCounts {
             refusal: PlainTold::of(None),
-            charges: rig.charges(),
-            assured: rig.assured(),
-            saves: rig.saves(),
-            cuts: rig.cuts(),
-            attempts: rig.attempts(),
+            charges: standing.charges(source),
+            assured: source.assured(),
+            saves: standing.saves,
+            cuts: standing.cuts,
+            attempts: standing.attempts,
         }
     }
 
@@ -96,35 +96,35 @@ impl PlainKeptRecord {
 #[unsafe(no_mangle)]
 pub extern "C" fn yatesorrel_rig_counts(rig: &PlainRig) -> PlainCounts
     ensures unbegun { Unbegun rig.now → result ≡ own_counts NotBegun }
-    ensures counted { (r : Held Source) → rig.now ≡ numbers_of r → result ≡ counts_of (seen r) }
+    ensures counted { (r : Rig Source State) → Whole r → rig.now ≡ plain_rig r → result ≡ counts_of r }
 {
-    let Some(held) = &rig.rig() else {
+    let Some(source) = rig.source() else {
         return PlainCounts::own(Own::NotBegun);
     };
-    PlainCounts::of(held)
+    PlainCounts::of(&source, &rig.standing)
 }
 
 // Tells a record of the kept log.
 #[unsafe(no_mangle)]
 pub extern "C" fn yatesorrel_rig_record(rig: &PlainRig, index: usize) -> PlainKeptRecord
     ensures unbegun { Unbegun rig.now → result ≡ own_kept_record NotBegun }
-    ensures told { (r : Held Source) → rig.now ≡ numbers_of r → result ≡ kept_record_in (record_or (record_in r.kept index)) }
+    ensures told { (r : Rig Source State) → Whole r → rig.now ≡ plain_rig r → result ≡ kept_record_in (record_or (record_in r.kept index)) }
 {
-    let Some(held) = rig.rig() else {
+    let Some(_) = rig.source() else {
         return PlainKeptRecord::own(Own::NotBegun);
     };
-    PlainKeptRecord::of(held.record(index))
+    PlainKeptRecord::of(rig.standing.record(index))
 }
 
 // Copies the kept state.
 #[unsafe(no_mangle)]
-pub extern "C" fn yatesorrel_rig_kept(rig: &PlainRig, state: &mut PlainState) -> PlainTold
+pub extern "C" fn yatesorrel_rig_kept(rig: &PlainRig, state: &mut State) -> PlainTold
     ensures unbegun { Unbegun rig.now → (result ≡ own_told NotBegun) × (state.new ≡ state.old) }
-    ensures copied { (r : Held Source) → rig.now ≡ numbers_of r → (result ≡ told_in None) × (state.new ≡ plain_state r.kept) }
+    ensures copied { (r : Rig Source State) → Whole r → rig.now ≡ plain_rig r → (result ≡ told_in None) × (state.new ≡ r.kept) }
 {
-    let Some(held) = rig.rig() else {
+    let Some(_) = rig.source() else {
         return PlainTold::own(Own::NotBegun);
     };
-    *state = PlainState::of(&held.kept());
+    *state = rig.standing.kept;
     PlainTold::of(None)
 }

@@ -1,14 +1,13 @@
 // The mains run from C: begun, stepped, and run at once.
-ghost use Rattle.std.specs.Prelude.{◌≡◌};
-ghost use Rattle.machine.specs.declared.state.State.{State};
+ghost use Rattle.std.specs.Prelude.{◌≡◌, ◌<◌};
 ghost use Rattle.machine.specs.Process.{Deterministic};
 ghost use Rattle.machine.specs.Run.{mains, run_of, Reached};
 ghost use Rattle.machine.specs.State.{initial};
 ghost use Rattle.yatesorrel_c.specs.declared.told.Own.TheVariants.{NotBegun};
-ghost use Rattle.yatesorrel_c.specs.State.{plain_state, NoState, StatesTold};
+ghost use Rattle.yatesorrel_c.specs.State.{Known};
 ghost use Rattle.yatesorrel_c.specs.Run.{step_of, step_in, own_step, StepDone};
 
-use crate::state::PlainState;
+use crate::state::is_known;
 use crate::told::{Own, PlainTold};
 use machine::effect::{Effect, Work};
 use machine::run::run_for;
@@ -82,48 +81,34 @@ impl PlainStep {
 
 // Makes the state at which every run begins.
 #[unsafe(no_mangle)]
-#[tactic(auto, using(crate::proofs::Telling::one_state))]
-pub extern "C" fn yatesorrel_state_begin(state: &mut PlainState)
-    ensures begun { state.new ≡ plain_state initial }
-    ensures tells { StatesTold }
+pub extern "C" fn yatesorrel_state_begin(state: &mut State)
+    ensures begun { state.new ≡ initial }
 {
-    *state = PlainState::of(&State::new());
+    *state = State::new();
 }
 
 // Executes one instruction.
 #[unsafe(no_mangle)]
-#[tactic(auto, using(crate::proofs::Telling::one_state))]
-pub extern "C" fn yatesorrel_state_step(
-    state: &mut PlainState,
-    image: &[u8],
-    tape: &[u32],
-) -> PlainStep
-    ensures none { NoState state.old → (result ≡ own_step NotBegun) × (state.new ≡ state.old) }
-    ensures stepped { (σ : State) → state.old ≡ plain_state σ → StepDone image.now tape.now σ state.new result }
+pub extern "C" fn yatesorrel_state_step(state: &mut State, image: &[u8], tape: &[u32]) -> PlainStep
+    ensures none { 5 < state.old.ending → (result ≡ own_step NotBegun) × (state.new ≡ state.old) }
+    ensures stepped { Known state.old → StepDone image.now tape.now state.old state.new result }
 {
-    let Some(mut held) = state.state() else {
+    if !is_known(state) {
         return PlainStep::own(Own::NotBegun);
-    };
-    let effect = held.step(image, tape);
-    *state = PlainState::of(&held);
-    PlainStep::of(effect)
+    }
+    PlainStep::of(state.step(image, tape))
 }
 
 // Runs an image from the beginning for at most so many steps, and tells how
 // many were made.
 #[unsafe(no_mangle)]
-pub extern "C" fn yatesorrel_run(
-    image: &[u8],
-    tape: &[u32],
-    most: u64,
-    state: &mut PlainState,
-) -> u64
+pub extern "C" fn yatesorrel_run(image: &[u8], tape: &[u32], most: u64, state: &mut State) -> u64
     ensures steps { result ≡ (run_of image.now tape.now most).steps }
-    ensures left { state.new ≡ plain_state (run_of image.now tape.now most).state }
+    ensures left { state.new ≡ (run_of image.now tape.now most).state }
     ensures reached { Reached image.now tape.now most (run_of image.now tape.now most) }
     ensures deterministic { Deterministic (mains image.now tape.now) }
 {
     let run = run_for(image, tape, most);
-    *state = PlainState::of(&run.state);
+    *state = run.state;
     run.steps
 }

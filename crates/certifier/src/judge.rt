@@ -86,11 +86,11 @@ pub(crate) fn judge<V: Priced, M: PriceModel>(
     requires room { 1024 ≤ length worths.old }
     ensures { Judged V.PathValue.kind V.Priced.price (graph_of (M.PriceModel.means by.now.model.now) image.now) by.now.budget worths.old worths.new result }
 {
-    let Chart { nodes, starts, .. } = Chart::of(image, by.model);
+    let chart = Chart::of(image, by.model);
     let count = image.len() / 8;
     let table = Table {
-        nodes: &nodes,
-        starts: &starts[..count],
+        nodes: &chart.nodes,
+        starts: &chart.starts[..count],
     };
     let Ok(order) = table.find_order() else {
         return Err(Refusal::Loop {

@@ -66,7 +66,8 @@ fn open<M: PriceModel>(image: &[u8], model: &M, nodes: &mut [Node; 1024], saves:
 // Ends the walks at the saves.
 fn close(nodes: &mut [Node; 1024], saves: &[bool])
     requires { length saves.now ≤ 1024 }
-    ensures { (k : ℕ) → k < 1024 → slice_index_or nodes.new k no_node ≡ closed (slice_index_or saves.now k false) (slice_index_or nodes.old k no_node) }
+    ensures size { length nodes.new ≡ 1024 }
+    ensures nodes { (k : ℕ) → k < 1024 → slice_index_or nodes.new k no_node ≡ closed (slice_index_or saves.now k false) (slice_index_or nodes.old k no_node) }
 {
     for (at, &save) in saves.iter().enumerate() {
         if save {
@@ -101,17 +102,18 @@ impl Chart {
         ensures reachable { Lawful image.now → Tells result.reached (Reachable (graph_of (M.PriceModel.means model.now) image.now)) }
         ensures lawful { Lawful image.now → ChartOf (graph_of (M.PriceModel.means model.now) image.now) result.nodes result.starts }
     {
-        let mut nodes = [Node::default(); 1024];
+        // Filled where it lies, as it is large.
+        let mut chart = Chart {
+            nodes: [Node::default(); 1024],
+            starts: [false; 1024],
+            reached: [false; 1024],
+        };
         let mut saves = [false; 1024];
-        open(image, model, &mut nodes, &mut saves);
+        open(image, model, &mut chart.nodes, &mut saves);
         let saves = &saves[..image.len().min(8192) / 8];
-        let reached = reach_from(&nodes, 0);
-        let starts = starts_after(saves, &reached);
-        close(&mut nodes, saves);
-        Chart {
-            nodes,
-            starts,
-            reached,
-        }
+        chart.reached = reach_from(&chart.nodes, 0);
+        chart.starts = starts_after(saves, &chart.reached);
+        close(&mut chart.nodes, saves);
+        chart
     }
 }

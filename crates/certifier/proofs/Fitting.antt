@@ -32,32 +32,39 @@ use Rattle.certifier.specs.Fits.{TableOf}
 use Rattle.certifier.proofs.Judging.{judged_means}
 use Rattle.certifier.proofs.Searching.{looped_on}
 
-start_inside : (m : Model) (image : List ℕ) → Lawful image → (n : ℕ) → Start (graph_of m image) n → n < slot_count image
-start_inside m image lawful n s =
-    let sound = lawful_sound m image lawful in reach_below (graph_of m image) sound n (start_reached (graph_of m image) sound n s)
+-- the starts past a graph's nodes may be left out
+pub shortened : (g : Graph) (nodes : List Node) (starts : List Bool) (n : ℕ) → g.size ≤ n → TableOf g nodes starts → TableOf g nodes (take n starts)
+shortened g nodes starts n inside t = record {
+  sound = t.sound;
+  most = t.most;
+  small = t.small;
+  size = t.size;
+  described = t.described;
+  beyond = t.beyond;
+  told = λ k h. ⊎_elim
+      (λ (lt : k < n).
+      let e : get_or (take n starts) k false ≡ get_or starts k false = grind (arith, common_steps) in
+      subst⁻¹ (λ (b : Bool). (b ≡ true) ↔ Start g k) e (t.told k h))
+      (λ (le : n ≤ k).
+      (λ e. absurd (let f : get_or (take n starts) k false ≡ false = grind (arith, common_steps) in true≢false (sym e ∙ f)),
+      λ s. let b = reach_below g t.sound k (start_reached g t.sound k s) in absurd (omega arith)))
+      (cases_lt k n);
+}
 
--- the starts past the image's slots are left out
 pub table_of_image : (m : Model) → Bounded m → (image : List ℕ) → Lawful image → (nodes : List Node) (starts : List Bool)
     → ChartOf (graph_of m image) nodes starts → TableOf (graph_of m image) nodes (take (slot_count image) starts)
 table_of_image m bounded image lawful nodes starts chart =
-    let small = slots_small image lawful in
-    record {
+    let within : slot_count image ≤ slot_count image = omega arith in
+    shortened (graph_of m image) nodes starts (slot_count image) within
+    (record {
       sound = lawful_sound m image lawful;
       most = 2 * 65535;
       small = lawful_small m bounded image lawful;
-      size = small;
+      size = slots_small image lawful;
       described = chart.described;
       beyond = chart.beyond;
-      told = λ n h. ⊎_elim
-          (λ (lt : n < slot_count image).
-          let e : get_or (take (slot_count image) starts) n false ≡ get_or starts n false = grind (arith, common_steps) in
-          subst⁻¹ (λ (b : Bool). (b ≡ true) ↔ Start (graph_of m image) n) e (chart.told n h))
-          (λ (le : slot_count image ≤ n). (
-            λ e. absurd (let f : get_or (take (slot_count image) starts) n false ≡ false = grind (arith, common_steps) in true≢false (sym e ∙ f)),
-            λ s. let b = start_inside m image lawful n s in absurd (omega arith),
-          ))
-          (cases_lt n (slot_count image));
-    }
+      told = chart.told;
+    })
 
 pub no_price : (x : Price) → x.price ≡ 0 → x ≡ price_kind.empty
 no_price x e = λ j. record { price = e j }

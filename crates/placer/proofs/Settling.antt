@@ -1,5 +1,5 @@
 -- The saves tried one after another are the nodes dropped one after another.
-use Rattle.std.proofs.Common.{◌≡◌, ℕ, suc, ◌+◌, ◌-◌, ◌*◌, ◌<◌, Bool, List, sym, ap, ◌∙◌, arith}
+use Rattle.std.proofs.Common.{◌≡◌, ℕ, suc, ◌+◌, ◌-◌, ◌*◌, ◌<◌, ◌≤◌, Bool, List, sym, ap, ◌∙◌, arith}
 use Rattle.isa.specs.Lawful.{Lawful}
 use Rattle.pricing.specs.Model.{Model, Bounded}
 use Rattle.paths.specs.declared.node.Node.{Node}
@@ -30,9 +30,10 @@ plain_of m bounded image lawful plain starts chart =
 
 module _ (saving : ℕ) (g : Graph) (plain : List Node) (budget : ℕ) where
   pub tested : Plain saving g plain → (t : Turned) → Turns saving g plain t
-      → (fit : Bool) → ((h : Graph) → TableOf h t.nodes t.starts → fit ≡ is_accepted (certified h budget))
+      → (count : ℕ) → g.size ≤ count
+      → (fit : Bool) → ((h : Graph) → TableOf h t.nodes t.starts → h.size ≤ count → fit ≡ is_accepted (certified h budget))
       → fit ≡ allowed saving g budget (marked t.saves)
-  tested p t turns fit answer = answer (turned saving g (marked t.saves)) (tables_turned saving g plain p t turns)
+  tested p t turns count inside fit answer = answer (turned saving g (marked t.saves)) (tables_turned saving g plain p t turns) inside
 
   -- one node more
   pub settled_more : (count i : ℕ) (here out : Turned) → i < count → Settled saving g plain budget i here out

@@ -182,7 +182,8 @@ module _ (saving : ℕ) (g : Graph) (plain : List Node) (p : Plain saving g plai
 
   module _ (saved : marked t.saves at ≡ true) (there : at + 1 < 1024) (x : Node) (plainly : node_at plain at ≡ x) (mid : Turned)
       (written : Written t at (record { node = x; save = false; start = false }) mid)
-      (stands : Bool) (answer : (h : Graph) → TableOf h mid.nodes mid.starts → stands ≡ is_accepted (certified h budget)) where
+      (count : ℕ) (inside : g.size ≤ count)
+      (stands : Bool) (answer : (h : Graph) → TableOf h mid.nodes mid.starts → h.size ≤ count → stands ≡ is_accepted (certified h budget)) where
     abbrev P : ℕ → Bool
     P = marked t.saves
 
@@ -193,7 +194,7 @@ module _ (saving : ℕ) (g : Graph) (plain : List Node) (p : Plain saving g plai
     left_out = λ j n. saves_after saving g plain t mid turns at saved there (record { node = x; save = false; start = false }) (sym plainly) refl refl written n j
 
     tested : stands ≡ allowed saving g budget (without at P)
-    tested = answer (turned saving g (marked mid.saves)) (tables_turned saving g plain p mid after) ∙ ap (allowed saving g budget) left_out
+    tested = answer (turned saving g (marked mid.saves)) (tables_turned saving g plain p mid after) inside ∙ ap (allowed saving g budget) left_out
 
     pub settled_idle : stands ≡ true → (u : Turned) → Same mid u → Settled saving g plain budget at t u
     settled_idle fits u same =

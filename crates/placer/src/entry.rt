@@ -1,5 +1,5 @@
 // Tables with the entry of one slot exchanged, and whether they are accepted.
-ghost use Rattle.std.specs.Prelude.{◌≡◌, ◌+◌, ◌<◌};
+ghost use Rattle.std.specs.Prelude.{◌≡◌, ◌+◌, ◌<◌, ◌≤◌};
 ghost use Rattle.walks.specs.Graph.{Graph};
 ghost use Rattle.walks.specs.Certified.{certified};
 ghost use Rattle.walks.specs.Placing.{is_accepted};
@@ -28,12 +28,14 @@ impl Turned {
         former
     }
 
-    pub(crate) fn fits(&self, budget: u64) -> bool
-        ensures { (g : Graph) → TableOf g self.now.nodes self.now.starts → result ≡ is_accepted (certified g budget) }
+    // Whether the tables are accepted, of a graph that has no more than so many nodes.
+    pub(crate) fn fits(&self, count: usize, budget: u64) -> bool
+        requires { count ≤ 1024 }
+        ensures { (g : Graph) → TableOf g self.now.nodes self.now.starts → g.size ≤ count → result ≡ is_accepted (certified g budget) }
     {
         let table = Table {
             nodes: &self.nodes,
-            starts: &self.starts,
+            starts: &self.starts[..count],
         };
         fits(&table, budget)
     }

@@ -18,13 +18,13 @@ use tables::chart::Chart;
 // refused as they are stay so.
 fn settle(turned: &mut Turned, plain: &[Node; 1024], count: usize, budget: u64)
     requires { count ≤ 1024 }
-    ensures { (saving : ℕ) (g : Graph) → Plain saving g plain.now → Turns saving g plain.now turned.old → AllSettled saving g budget count turned.old turned.new }
+    ensures { (saving : ℕ) (g : Graph) → Plain saving g plain.now → g.size ≤ count → Turns saving g plain.now turned.old → AllSettled saving g budget count turned.old turned.new }
 {
-    if !turned.fits(budget) {
+    if !turned.fits(count, budget) {
         return;
     }
     for (at, node) in plain[..count].iter().enumerate() {
-        settle_at(turned, at, *node, budget);
+        settle_at(turned, at, *node, count, budget);
     }
 }
 

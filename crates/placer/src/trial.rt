@@ -1,6 +1,6 @@
 // A save under trial: while a trial lasts the slot is idle, and at its end its
 // former entry is back.
-ghost use Rattle.std.specs.Prelude.{◌≡◌, ℕ, ◌+◌, ◌<◌, List};
+ghost use Rattle.std.specs.Prelude.{◌≡◌, ℕ, ◌+◌, ◌<◌, ◌≤◌, List};
 ghost use Rattle.paths.specs.declared.node.Node.{Node};
 ghost use Rattle.paths.specs.Net.{node_at};
 ghost use Rattle.walks.specs.Graph.{Graph};
@@ -30,17 +30,19 @@ impl Drop for Trial<'_> {
 }
 
 impl Trial<'_> {
-    fn stands(&self, budget: u64) -> bool
-        ensures { (g : Graph) → TableOf g self.now.turned.now.nodes self.now.turned.now.starts → result ≡ is_accepted (certified g budget) }
+    fn stands(&self, count: usize, budget: u64) -> bool
+        requires { count ≤ 1024 }
+        ensures { (g : Graph) → TableOf g self.now.turned.now.nodes self.now.turned.now.starts → g.size ≤ count → result ≡ is_accepted (certified g budget) }
     {
-        self.turned.fits(budget)
+        self.turned.fits(count, budget)
     }
 }
 
 // Leaves a slot that is a save idle, if the tables are accepted so.
-pub(crate) fn settle_at(turned: &mut Turned, at: usize, plain: Node, budget: u64)
-    requires { at < 1024 }
-    ensures { (saving : ℕ) (g : Graph) (nodes : List Node) → Plain saving g nodes → node_at nodes at ≡ plain → Turns saving g nodes turned.old → Settled saving g nodes budget at turned.old turned.new }
+pub(crate) fn settle_at(turned: &mut Turned, at: usize, plain: Node, count: usize, budget: u64)
+    requires here { at < 1024 }
+    requires few { count ≤ 1024 }
+    ensures { (saving : ℕ) (g : Graph) (nodes : List Node) → Plain saving g nodes → g.size ≤ count → node_at nodes at ≡ plain → Turns saving g nodes turned.old → Settled saving g nodes budget at turned.old turned.new }
 {
     if !turned.saves[at] {
         return;
@@ -52,7 +54,7 @@ pub(crate) fn settle_at(turned: &mut Turned, at: usize, plain: Node, budget: u64
     };
     let former = turned.put(at, idle);
     let trial = Trial { turned, at, former };
-    let stands = trial.stands(budget);
+    let stands = trial.stands(count, budget);
     drop(trial);
     if stands {
         turned.put(at, idle);

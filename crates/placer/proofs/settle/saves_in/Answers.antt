@@ -1,4 +1,4 @@
-use Rattle.std.proofs.Common.{ℕ, Bool, cond, ap, subst, ◌∙◌}
+use Rattle.std.proofs.Common.{ℕ, Bool, cond, ap, subst, ◌∙◌, arith}
 use Rattle.walks.specs.ImageGraph.{graph_of}
 use Rattle.walks.specs.Placing.{allowed, dropped}
 use Rattle.placer.specs.Turned.{Turns}
@@ -18,6 +18,6 @@ returns g c n =
     let turned = c.turn_all-turned in
     let plain = plain_of m (g.met.M.PriceModel.bounded by.model.now) image lawful nodes c.of-chart.result.starts (c.of-chart.ensures.lawful lawful) in
     let turns = subst (λ (s : ℕ). Turns s h nodes turned.result) c.dearest.ensures (turned.ensures.turns m) in
-    ap (λ (P : ℕ → Bool). P n) (c.settle.ensures m.dearest h plain turns)
+    ap (λ (P : ℕ → Bool). P n) (c.settle.ensures m.dearest h plain (omega arith) turns)
     ∙ ap (λ (P : ℕ → Bool). cond (ok P) (dropped ok h.size 0 P) P n)
     (idle_all image lawful turned.result.saves turned.ensures.saves)

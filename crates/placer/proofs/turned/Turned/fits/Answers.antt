@@ -1,0 +1,6 @@
+use Rattle.certifier.proofs.Fitting.{shortened}
+use Rattle.placer.proofs.turned.Turned.fits.Goals as goal
+
+pub returns : goal.returns
+returns c g t inside =
+    c.fits.ensures g (shortened g c.args.self.now.nodes c.args.self.now.starts c.args.count inside t)

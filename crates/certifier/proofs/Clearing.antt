@@ -1,5 +1,5 @@
 -- A front that is filled by one value.
-use Rattle.std.proofs.Common.{◌≡◌, ℕ, zero, suc, min, List, [], ◌∷◌, ◌++◌, length, get_or, drop, take, replicate, refl, arith}
+use Rattle.std.proofs.Common.{◌≡◌, ℕ, zero, suc, min, List, [], ◌∷◌, ◌++◌, length, get_or, drop, take, refl, arith}
 use Rattle.std.proofs.lemmas.Grind.{common_steps}
 use Rattle.std.specs.List.{FoldsTo}
 use Rattle.paths.specs.Kind.{PathKind}
@@ -15,7 +15,3 @@ module _ {F V : Type 0} (R : F → V → F → Type 0) (e : V) (S : F → Type 0
 pub cleared : {V : Type 0} (k : PathKind V) (count m : ℕ) (xs ys : List V) → m ≡ min count (length xs) → length ys ≡ length (take m xs)
     → ((n : ℕ) → get_or ys n k.empty ≡ k.empty) → Cleared k count xs (ys ++ drop m xs)
 cleared k count m xs ys e l all = record { below = λ n h. grind (arith, common_steps, all n); beyond = λ n h. grind (arith, common_steps) }
-
--- a list of empty values is clear
-pub all_clear : {V : Type 0} (k : PathKind V) (count n : ℕ) (x : V) → x ≡ k.empty → Cleared k count (replicate n x) (replicate n x)
-all_clear k count n x e = record { below = λ i h. grind (arith, common_steps); beyond = λ i h. refl }

@@ -45,9 +45,10 @@ shortened g nodes starts n inside t = record {
       (λ (lt : k < n).
       let e : get_or (take n starts) k false ≡ get_or starts k false = grind (arith, common_steps) in
       subst⁻¹ (λ (b : Bool). (b ≡ true) ↔ Start g k) e (t.told k h))
-      (λ (le : n ≤ k).
-      (λ e. absurd (let f : get_or (take n starts) k false ≡ false = grind (arith, common_steps) in true≢false (sym e ∙ f)),
-      λ s. let b = reach_below g t.sound k (start_reached g t.sound k s) in absurd (omega arith)))
+      (λ (le : n ≤ k). (
+        λ e. absurd (let f : get_or (take n starts) k false ≡ false = grind (arith, common_steps) in true≢false (sym e ∙ f)),
+        λ s. let b = reach_below g t.sound k (start_reached g t.sound k s) in absurd (omega arith),
+      ))
       (cases_lt k n);
 }
 

@@ -19,6 +19,7 @@ use crate::priced::Priced;
 use isa::refusal::Refusal;
 use paths::fill::fill;
 use pricing::model::PriceModel;
+use search::order::Visits;
 use search::table::Table;
 use tables::chart::Chart;
 
@@ -92,11 +93,12 @@ pub(crate) fn judge<V: Priced, M: PriceModel>(
         nodes: &chart.nodes,
         starts: &chart.starts[..count],
     };
-    let Ok(order) = table.find_order() else {
+    let mut visits = Visits::new();
+    let Ok(()) = table.find_order(&mut visits) else {
         return Err(Refusal::Loop {
             slot: lowest_loop(&table),
         });
     };
     clear(worths, count);
-    judge_order(&table, order.as_slice(), by.budget, worths)
+    judge_order(&table, visits.order.as_slice(), by.budget, worths)
 }

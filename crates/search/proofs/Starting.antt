@@ -17,8 +17,10 @@ pub record Started (g : Net) (starts : List Bool) (marks : List Mark) (path orde
   pub from : (n : ℕ) → mark_at marks n ≡ Done → Reached g starts n
 
 -- nothing is visited yet
-pub started : {g : Net} {starts : List Bool} {path order : List ℕ} → path ≡ [] → order ≡ [] → Started g starts (replicate 1024 New) path order 0
-started {g} {starts} {path} {order} no_path empty = go 1024 refl
+pub started : {g : Net} {starts : List Bool} {marks : List Mark} {path order : List ℕ} → marks ≡ replicate 1024 New → path ≡ [] → order ≡ []
+    → Started g starts marks path order 0
+started {g} {starts} {marks} {path} {order} unmarked no_path empty =
+    subst (λ (xs : List Mark). Started g starts xs path order 0) (sym unmarked) (go 1024 refl)
   where
     go : (k : ℕ) → k ≡ 1024 → Started g starts (replicate k New) path order 0
     go k e =

@@ -2,10 +2,9 @@
 --     After g order                each node of an order stands after its successors below 1,024
 --     Once order                   no node stands twice in an order
 --     Sorted g starts order        an order of the nodes that the starts reach
---     Searched g starts outcome    what an outcome says: an order, and no node that the starts reach lies on a loop;
+--     Searched g starts order r    what an answer says: that is the order, and no node that the starts reach lies on a loop;
 --                                  or some node that they reach does
 use Rattle.std.specs.Prelude.{ℕ, ◌<◌, Bool, ◌↔◌, List, length, Result, Ok, Err, ◌≢◌, slice_index}
-use Rattle.arrayvec.specs.ArrayVec.{ArrayVec}
 use Rattle.paths.specs.Net.{Net, In, Listed}
 use Rattle.search.specs.declared.order.Looping.{Looping}
 use Rattle.search.specs.Reach.{Reached, Looped}
@@ -23,6 +22,6 @@ pub record Sorted (g : Net) (starts : List Bool) (order : List ℕ) : Type 0 whe
   pub exact : (n : ℕ) → Listed order (length order) n ↔ ((n < 1024) × Reached g starts n)
   pub unlooped : (n : ℕ) → Looped g starts n → ⊥
 
-abbrev pub Searched : Net → List Bool → Result (ArrayVec ℕ) Looping → Type 0
-Searched g starts (Ok order) = Sorted g starts order.items
-Searched g starts (Err _) = (n : ℕ) × Looped g starts n
+abbrev pub Searched : Net → List Bool → List ℕ → Result (Unit {0}) Looping → Type 0
+Searched g starts order (Ok _) = Sorted g starts order
+Searched g starts order (Err _) = (n : ℕ) × Looped g starts n

@@ -2,7 +2,7 @@
 // depth first, from a node to its ways out and from a way out to the node that
 // it reaches. The nodes that it is inside of are a path in a list of its own,
 // so that its depth takes no stack.
-ghost use Rattle.std.specs.Prelude.{◌≡◌, ℕ, ◌<◌, OnOk, OnErr, Some};
+ghost use Rattle.std.specs.Prelude.{◌≡◌, ℕ, ◌<◌, [], replicate, OnOk, OnErr, Some};
 ghost use Rattle.paths.specs.Net.{tabled};
 ghost use Rattle.search.specs.declared.order.Mark.TheVariants.{New};
 ghost use Rattle.search.specs.Visit.{mark_at, Rests, NextWay, Marked, Visited, LoopAhead};
@@ -21,13 +21,36 @@ enum Mark {
 }
 
 // The nodes visited so far: the path of those that are open, and the order of
-// those that are done.
+// those that are done. Whoever searches often keeps one.
 #[derive(Drop)]
-struct Visits {
+pub struct Visits {
     // Stays: one for each of the device's 1,024 slots.
     marks: [Mark; 1024],
     path: ArrayVec<u16, 1024>,
-    order: ArrayVec<u16, 1024>,
+    pub order: ArrayVec<u16, 1024>,
+}
+
+impl Visits {
+    pub fn new() -> Visits
+        ensures { result.order.items ≡ [] }
+    {
+        Visits {
+            marks: [Mark::New; 1024],
+            path: ArrayVec::new(),
+            order: ArrayVec::new(),
+        }
+    }
+
+    // Forgets what an earlier search visited.
+    fn begin(&mut self)
+        ensures marks { self.new.marks ≡ replicate 1024 New }
+        ensures path { self.new.path.items ≡ [] }
+        ensures order { self.new.order.items ≡ [] }
+    {
+        self.marks = [Mark::New; 1024];
+        self.path.clear();
+        self.order.clear();
+    }
 }
 
 // There is no order, since a node lies on a loop.
@@ -36,6 +59,7 @@ pub struct Looping;
 
 // A way out to a node that is new, or none where it is done or not there. A node
 // that is open is met again.
+#[inline(always)]
 fn if_new(marks: &[Mark; 1024], way: Option<u16>) -> Result<Option<u16>, Looping>
     requires { (t : ℕ) → way ≡ Some t → t < 1024 }
     ensures { Marked marks.now way result }
@@ -52,6 +76,7 @@ fn if_new(marks: &[Mark; 1024], way: Option<u16>) -> Result<Option<u16>, Looping
 
 impl Table<'_> {
     // The first way out of a node to one that is new; none where all are done.
+    #[inline(always)]
     fn next_way(&self, marks: &[Mark; 1024], node: u16) -> Result<Option<u16>, Looping>
         requires { node < 1024 }
         ensures { NextWay (tabled self.now.nodes.now) marks.now node result }
@@ -88,19 +113,15 @@ impl Table<'_> {
 
     // Puts the nodes that the starts reach in an order, each after its
     // successors, or tells that one of them lies on a loop.
-    pub fn find_order(&self) -> Result<ArrayVec<u16, 1024>, Looping>
-        ensures { Searched (tabled self.now.nodes.now) self.now.starts.now result }
+    pub fn find_order(&self, visits: &mut Visits) -> Result<(), Looping>
+        ensures { Searched (tabled self.now.nodes.now) self.now.starts.now visits.new.order.items result }
     {
-        let mut visits = Visits {
-            marks: [Mark::New; 1024],
-            path: ArrayVec::new(),
-            order: ArrayVec::new(),
-        };
+        visits.begin();
         for (start, &chosen) in self.starts.iter().enumerate() {
             if chosen && matches!(visits.marks[start], Mark::New) {
-                self.visit(&mut visits, start as u16)?;
+                self.visit(visits, start as u16)?;
             }
         }
-        Ok(visits.order)
+        Ok(())
     }
 }

@@ -30,6 +30,7 @@ impl Flood {
     }
 
     // Sees a node and queues it, unless it has been seen.
+    #[inline(always)]
     fn add(&mut self, way: Option<u16>)
         requires queued { Queued self.old.seen self.old.queue.items }
         requires inside { (t : ℕ) → way ≡ Some t → t < 1024 }

@@ -13,6 +13,7 @@ pub(crate) fn within(node: u16) -> Option<u16>
 }
 
 // The pair of ways out, none for one that is not there or leaves the table.
+#[inline(always)]
 pub(crate) fn ways_within(successors: Successors) -> (Option<u16>, Option<u16>)
     ensures { Split (ways_of successors) result.0 result.1 }
 {

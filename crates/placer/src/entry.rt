@@ -7,7 +7,7 @@ ghost use Rattle.certifier.specs.Fits.{TableOf};
 ghost use Rattle.placer.specs.Turned.{Written};
 
 use crate::turned::{Entry, Turned};
-use certifier::fits::fits;
+use certifier::fits::Workspace;
 use search::table::Table;
 
 impl Turned {
@@ -29,7 +29,7 @@ impl Turned {
     }
 
     // Whether the tables are accepted, of a graph that has no more than so many nodes.
-    pub(crate) fn fits(&self, count: usize, budget: u64) -> bool
+    pub(crate) fn fits(&self, count: usize, budget: u64, on: &mut Workspace) -> bool
         requires { count ≤ 1024 }
         ensures { (g : Graph) → TableOf g self.now.nodes self.now.starts → g.size ≤ count → result ≡ is_accepted (certified g budget) }
     {
@@ -37,6 +37,6 @@ impl Turned {
             nodes: &self.nodes,
             starts: &self.starts[..count],
         };
-        fits(&table, budget)
+        on.fits(&table, budget)
     }
 }

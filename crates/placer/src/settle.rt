@@ -10,6 +10,7 @@ use crate::trial::settle_at;
 use crate::turn::turn_all;
 use crate::turned::Turned;
 use certifier::certify::Certifier;
+use certifier::fits::Workspace;
 use paths::node::Node;
 use pricing::model::PriceModel;
 use tables::chart::Chart;
@@ -20,11 +21,12 @@ fn settle(turned: &mut Turned, plain: &[Node; 1024], count: usize, budget: u64)
     requires { count ≤ 1024 }
     ensures { (saving : ℕ) (g : Graph) → Plain saving g plain.now → g.size ≤ count → Turns saving g plain.now turned.old → AllSettled saving g budget count turned.old turned.new }
 {
-    if !turned.fits(count, budget) {
+    let mut on = Workspace::new();
+    if !turned.fits(count, budget, &mut on) {
         return;
     }
     for (at, node) in plain[..count].iter().enumerate() {
-        settle_at(turned, at, *node, count, budget);
+        settle_at(turned, at, *node, count, budget, &mut on);
     }
 }
 

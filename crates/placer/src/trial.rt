@@ -10,6 +10,7 @@ ghost use Rattle.certifier.specs.Fits.{TableOf};
 ghost use Rattle.placer.specs.Turned.{Plain, Turns, Written, Settled};
 
 use crate::turned::{Entry, Turned};
+use certifier::fits::Workspace;
 use paths::node::Node;
 
 struct Trial<'a> {
@@ -30,16 +31,23 @@ impl Drop for Trial<'_> {
 }
 
 impl Trial<'_> {
-    fn stands(&self, count: usize, budget: u64) -> bool
+    fn stands(&self, count: usize, budget: u64, on: &mut Workspace) -> bool
         requires { count ≤ 1024 }
         ensures { (g : Graph) → TableOf g self.now.turned.now.nodes self.now.turned.now.starts → g.size ≤ count → result ≡ is_accepted (certified g budget) }
     {
-        self.turned.fits(count, budget)
+        self.turned.fits(count, budget, on)
     }
 }
 
 // Leaves a slot that is a save idle, if the tables are accepted so.
-pub(crate) fn settle_at(turned: &mut Turned, at: usize, plain: Node, count: usize, budget: u64)
+pub(crate) fn settle_at(
+    turned: &mut Turned,
+    at: usize,
+    plain: Node,
+    count: usize,
+    budget: u64,
+    on: &mut Workspace,
+)
     requires here { at < 1024 }
     requires few { count ≤ 1024 }
     ensures { (saving : ℕ) (g : Graph) (nodes : List Node) → Plain saving g nodes → g.size ≤ count → node_at nodes at ≡ plain → Turns saving g nodes turned.old → Settled saving g nodes budget at turned.old turned.new }
@@ -54,7 +62,7 @@ pub(crate) fn settle_at(turned: &mut Turned, at: usize, plain: Node, count: usiz
     };
     let former = turned.put(at, idle);
     let trial = Trial { turned, at, former };
-    let stands = trial.stands(count, budget);
+    let stands = trial.stands(count, budget, on);
     drop(trial);
     if stands {
         turned.put(at, idle);

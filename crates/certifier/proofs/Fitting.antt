@@ -70,7 +70,7 @@ table_of_image m bounded image lawful nodes starts chart =
 pub no_price : (x : Price) → x.price ≡ 0 → x ≡ price_kind.empty
 no_price x e = λ j. record { price = e j }
 
-pub ok_result : (a : Answer) → is_ok (result_of a) ≡ is_accepted a
+ok_result : (a : Answer) → is_ok (result_of a) ≡ is_accepted a
 ok_result a = grind arith
 
 accepted_only : (a : Answer) → is_accepted a ≡ true → a ≡ accepted

@@ -127,7 +127,7 @@ module _ (saving : ℕ) (g : Graph) (plain : List Node) where
     mark_other : (n : ℕ) → (n ≡ at → ⊥) → marked u.saves n ≡ marked t.saves n
     mark_other n ne = ap (λ (xs : List Bool). marked xs n) written.saves ∙ get_or-set_other t.saves at n entry.save false ne
 
-    pub saves_after : (n : ℕ) → marked u.saves n ≡ without at (marked t.saves) n
+    saves_after : (n : ℕ) → marked u.saves n ≡ without at (marked t.saves) n
     saves_after n =
         ⊎_elim (λ (e : n ≡ at). ap (marked u.saves) e ∙ mark_here ∙ sym (without_here n at (marked t.saves) e))
         (λ (ne : n ≡ at → ⊥). mark_other n ne ∙ sym (without_other n at (marked t.saves) ne))
@@ -166,7 +166,7 @@ module _ (saving : ℕ) (g : Graph) (plain : List Node) where
         ∙ ap (λ (b : Bool). turned_node b saving (node_at plain n)) (sym (mark_other n ne)))
         (cases_eq n at)
 
-    pub turns_after : Turns saving g plain u
+    turns_after : Turns saving g plain u
     turns_after =
         record {
           sized = (ap length written.nodes ∙ length-set t.nodes at entry.node ∙ turns.sized.0, ap length written.starts ∙ length-set t.starts (at + 1) entry.start ∙ turns.sized.1);

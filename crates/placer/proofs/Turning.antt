@@ -43,7 +43,7 @@ module _ (image : List ℕ) (lawful : Lawful image) (idle : List Bool) (table : 
       (λ (h : 1024 ≤ n). let long = table.size in absurd (true≢false (sym e ∙ get_or-eq_default idle false (omega arith))))
       (cases_lt n 1024)
 
-  pub idle_within : Within (marked idle) (idles_in image)
+  idle_within : Within (marked idle) (idles_in image)
   idle_within n e = sym (table.holds n (idle_below n e)) ∙ e
 
   marked_is : (n : ℕ) → marked idle n ≡ idles_in image n

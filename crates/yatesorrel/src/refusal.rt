@@ -1,5 +1,8 @@
 // A refusal for a person: its numbers, the reason, the slot that it speaks of,
 // and what helps.
+ghost use Rattle.std.specs.Prelude.{◌≡◌};
+ghost use Rattle.yatesorrel.specs.Refusal.{shown_slot};
+
 use crate::slots::Line;
 use isa::image::well_sized;
 use isa::refusal::{Refusal, Unplaceable};
@@ -32,7 +35,9 @@ impl fmt::Display for Report {
 }
 
 // The slot that a refusal speaks of.
-fn slot_of(refusal: Refusal) -> Option<u16> {
+fn slot_of(refusal: Refusal) -> Option<u16>
+    ensures { result ≡ shown_slot refusal }
+{
     match refusal {
         Refusal::IllegalOpcode { slot }
         | Refusal::NoRegister { slot }

@@ -1,4 +1,7 @@
 // The command `run`: a round rehearsed over a supply, and what came of it.
+ghost use Rattle.std.specs.Prelude.{◌≡◌, ◌++◌, IfOk};
+ghost use Rattle.yatesorrel.specs.Script.{cuts_at, script_of};
+
 use certifier::certify::Certifier;
 use claims::call::Call;
 use claims::reply::Reply;
@@ -16,14 +19,26 @@ use supply::supply::Supply;
 // The largest budget that the certifier takes.
 const MOST_BUDGET: u64 = 100_000_000;
 
-// So many steps, with a cut before the next step once as many were asked as a
-// cut says.
-pub fn script(heap: Global, steps: u64, cuts: &[u64]) -> Result<Vec<Call>, AllocError> {
-    let mut calls = Vec::new(heap);
-    for asked in 0..steps {
-        for _ in cuts.iter().filter(|cut| **cut == asked) {
+// The cuts that are made once so many steps were asked.
+fn push_cuts(calls: &mut Vec<Call>, cuts: &[u64], asked: u64) -> Result<(), AllocError>
+    ensures { IfOk result (λ _. calls.new.items ≡ calls.old.items ++ cuts_at cuts.now asked) }
+{
+    for cut in cuts {
+        if *cut == asked {
             calls.push(Call::Cut)?;
         }
+    }
+    Ok(())
+}
+
+// So many steps, with a cut before the next step once as many were asked as a
+// cut says.
+pub fn script(heap: Global, steps: u64, cuts: &[u64]) -> Result<Vec<Call>, AllocError>
+    ensures { IfOk result (λ calls. calls.items ≡ script_of cuts.now steps) }
+{
+    let mut calls = Vec::new(heap);
+    for asked in 0..steps {
+        push_cuts(&mut calls, cuts, asked)?;
         calls.push(Call::Step)?;
     }
     Ok(calls)

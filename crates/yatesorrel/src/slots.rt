@@ -1,4 +1,6 @@
 // An image as lines of text, a slot a line.
+ghost use Rattle.std.specs.Prelude.{◌≡◌, ◌/◌, min, length};
+
 use isa::image::instruction_at;
 use isa::instruction::Role;
 use listing::text::Text;
@@ -7,7 +9,9 @@ use std::{fmt, io};
 use walks::image_graph::{price_of, role_at};
 
 // The slots that are listed: all that an image may have.
-pub fn listed(image: &[u8]) -> u16 {
+pub fn listed(image: &[u8]) -> u16
+    ensures { result ≡ min (length image.now / 8) 1024 }
+{
     (image.len() / 8).min(1024) as u16
 }
 

@@ -1,4 +1,6 @@
 // The supply that the command line names.
+ghost use Rattle.yatesorrel.specs.Source.{Sourced};
+
 use inputs::supply::SupplyWord;
 use isa::refusal::Refusal;
 use std::fmt;
@@ -25,7 +27,9 @@ impl fmt::Display for Spelled {
 }
 
 // Refused by 13 where a capacitor's numbers are outside their limits.
-pub fn source_of(word: SupplyWord) -> Result<Source, Refusal> {
+pub fn source_of(word: SupplyWord) -> Result<Source, Refusal>
+    ensures { Sourced word result }
+{
     match word {
         SupplyWord::Mains => Ok(Source::Mains(Mains::new())),
         SupplyWord::Capacitor {

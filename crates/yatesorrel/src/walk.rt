@@ -1,4 +1,7 @@
 // The dearest walk from a slot, read off the worths that certifying leaves.
+ghost use Rattle.std.specs.Prelude.{◌≡◌};
+ghost use Rattle.headroom.specs.Stretch.{worth_at};
+
 use crate::slots::{Line, Reckoned, print_head};
 use headroom::stretch::{dearest_start, onward};
 use paths::node::Node;
@@ -27,7 +30,9 @@ impl Certified<'_> {
     }
 
     // What the dearest walk from a slot costs.
-    pub fn price_at(&self, slot: u16) -> u64 {
+    pub fn price_at(&self, slot: u16) -> u64
+        ensures { result ≡ (worth_at self.now.worths.now slot).price }
+    {
         self.worths
             .get(slot as usize)
             .map_or(0, |worth| worth.price)

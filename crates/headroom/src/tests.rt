@@ -48,6 +48,20 @@ fn they_fit_104_microfarads(rt: HostRuntime) {
     assert_eq!(rt; capacity(2000, 3000), Err(13));
 }
 
+// Between 52 and 51 millivolts a microfarad holds 103 half picojoules. Of these
+// the six slots need 516: five microfarads hold 515.
+#[test]
+fn half_a_picojoule_short_does_not_fit(rt: HostRuntime) {
+    let mut working = [Worth::default(); 1024];
+    let narrow = Voltages {
+        top: 52,
+        bottom: 51,
+        unit: 1,
+    };
+    let found = least_capacity(SIX, &OperandModel, narrow, &mut working);
+    assert_eq!(rt; found.map_err(|refusal| refusal.number()), Ok(Some(6)));
+}
+
 #[test]
 fn the_dearer_way_is_taken(rt: HostRuntime) {
     let nodes = [Node {

@@ -9,3 +9,5 @@ mod prices;
 mod supply;
 #[cfg(test)]
 mod tape;
+#[cfg(test)]
+mod words;

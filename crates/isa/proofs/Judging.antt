@@ -31,12 +31,12 @@ cond_none : (b : Bool) (r : Refusal) → cond b None (Some r) ≡ None → b ≡
 cond_none true r e = refl
 cond_none false r e = cc
 
-stays_both : (x : Instruction) (n : ℕ) → leaving_by x n ≡ None → Inside (ways_out x).0 n × Inside (ways_out x).1 n
+pub stays_both : (x : Instruction) (n : ℕ) → leaving_by x n ≡ None → Inside (ways_out x).0 n × Inside (ways_out x).1 n
 stays_both x n e =
     let both = and_parts (stays_inside (ways_out x).0 n) (stays_inside (ways_out x).1 n) (cond_none _ _ e) in
     (inside_from (ways_out x).0 n both.0, inside_from (ways_out x).1 n both.1)
 
-both_stay : (x : Instruction) (n : ℕ) → Inside (ways_out x).0 n × Inside (ways_out x).1 n → leaving_by x n ≡ None
+pub both_stay : (x : Instruction) (n : ℕ) → Inside (ways_out x).0 n × Inside (ways_out x).1 n → leaving_by x n ≡ None
 both_stay x n h =
     cond-true _ _ _ (and_from (stays_inside (ways_out x).0 n) (stays_inside (ways_out x).1 n) (from_inside (ways_out x).0 n h.0) (from_inside (ways_out x).1 n h.1))
 

@@ -28,7 +28,7 @@ fn stays_inside(way: Option<i32>, count: u16) -> bool
 
 // The refusal of an instruction with a way out that leaves an image of so many
 // slots.
-fn leaving_by(instruction: Instruction, count: u16) -> Option<Refusal>
+pub fn leaving_by(instruction: Instruction, count: u16) -> Option<Refusal>
     ensures { result ≡ leaving_by instruction count }
 {
     let (next, target) = instruction.ways_out();

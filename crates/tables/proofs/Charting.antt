@@ -1,11 +1,14 @@
 -- The chart of an image, made slot by slot.
-use Rattle.std.proofs.Common.{◌≡◌, true, ℕ, zero, suc, ◌+◌, ◌-◌, ◌/◌, ◌<◌, ◌≤◌, ◌&&◌, ◌||◌, eqb, min, Bool, false, List, [], length, take, get_or, set, replicate, Some, None, Option, sym, refl, ap, ◌∙◌, subst, ⊎_elim, arith}
+use Rattle.std.proofs.Common.{◌≡◌, true, ℕ, zero, suc, ◌+◌, ◌-◌, ◌/◌, ◌<◌, ◌≤◌, ◌&&◌, ◌||◌, ◌↔◌, eqb, min, Bool, false, List, [], length, take, get_or, set, replicate, Some, None, Option, is_none, sym, refl, ap, ◌∙◌, subst, ⊎_elim, arith}
 use Rattle.std.proofs.lemmas.Grind.{common_steps}
-use Rattle.std.proofs.lemmas.Bool.{cases_eq, cases_lt, ne_eqb}
+use Rattle.std.proofs.lemmas.Bool.{and_parts, and_from, cases_eq, cases_lt, ne_eqb}
+use mathlib.Core.Path.{subst⁻¹}
 use Rattle.isa.specs.declared.instruction.Instruction.{Instruction}
-use Rattle.isa.specs.Image.{instruction_at}
+use Rattle.isa.specs.Image.{well_sized, instruction_at}
 use Rattle.isa.specs.Slot.{slot_count}
-use Rattle.isa.specs.Lawful.{Lawful}
+use Rattle.isa.specs.Lawful.{leaving_by, Lawful}
+use Rattle.isa.specs.declared.refusal.Refusal.{Refusal}
+use Rattle.isa.proofs.Judging.{stays_both, both_stay, slot_of}
 use Rattle.pricing.specs.Model.{Model}
 use Rattle.paths.specs.declared.node.Node.{Node}
 use lib.ListN.{get_or-eq_default}
@@ -16,12 +19,71 @@ use Rattle.walks.specs.Certified.{is_save}
 use Rattle.tables.specs.Node.{Tabled}
 use Rattle.tables.specs.Start.{way_node, started_by}
 use Rattle.tables.specs.Walk.{walk_node}
-use Rattle.tables.specs.Chart.{opened_at, closed, charted_at, started_after}
+use Rattle.tables.specs.Chart.{staying_in, opened_at, closed, charted_at, started_after}
 use Rattle.tables.proofs.Describing.{slots_small, described_at}
 
 -- past its end an image has no instruction
 pub absent : (image : List ℕ) (k : ℕ) → min (length image) 8192 / 8 ≤ k → k < 1024 → instruction_at image k ≡ None
 absent image k h lt = grind arith
+
+-- the answer so far, whether the image is lawful
+pub record Judging (image : List ℕ) (n i : ℕ) (lawful : Bool) : Type 0 where
+  pub yes : lawful ≡ true → (well_sized image ≡ true) × ((k : ℕ) → k < i → staying_in (instruction_at image k) n ≡ true)
+  pub no : Lawful image → lawful ≡ true
+
+-- a legal instruction that stays
+stays_is : (o : Option Instruction) (n : ℕ) → staying_in o n ≡ true → (x : Instruction) × (o ≡ Some x) × (leaving_by x n ≡ None)
+stays_is None n e = cc
+stays_is (Some x) n e = (x, refl, go (leaving_by x n) e)
+  where
+    go : (r : Option Refusal) → is_none r ≡ true → r ≡ None
+    go None e = refl
+    go (Some r) e = cc
+
+pub judging : (image : List ℕ) (n : ℕ) → Judging image n 0 (well_sized image)
+judging image n = record { yes = λ e. (e, λ k lt. absurd (omega arith)); no = λ lawful. lawful.sized }
+
+-- one slot more
+pub judges : {image : List ℕ} {n i : ℕ} {lawful : Bool} → Judging image n i lawful → n ≡ min (length image) 8192 / 8 → i < n
+    → Judging image n (i + 1) (lawful && staying_in (instruction_at image i) n)
+judges {image} {n} {i} {lawful} J count lt = record {
+  yes = λ e.
+      let p = and_parts lawful (staying_in (instruction_at image i) n) e in
+      let was = J.yes p.0 in (
+        was.0,
+        λ k h. ⊎_elim
+            (λ (is : k ≡ i). subst⁻¹ (λ (j : ℕ). staying_in (instruction_at image j) n ≡ true) is p.1)
+            (λ (ne : k ≡ i → ⊥). was.1 k (omega arith))
+            (cases_eq k i),
+      );
+  no = λ l.
+      let small = slots_small image l in
+      let legal = l.legal i (omega arith) in
+      let stays : leaving_by legal.0 (slot_count image) ≡ None = both_stay legal.0 (slot_count image) (l.inside i legal.0 legal.1) in
+      let same : n ≡ slot_count image = let s = l.sized in grind arith in
+      and_from lawful (staying_in (instruction_at image i) n) (J.no l)
+      (ap (λ (o : Option Instruction). staying_in o n) legal.1 ∙ ap is_none (ap (leaving_by legal.0) same ∙ stays));
+}
+
+-- at the end it is the answer
+pub judged : {image : List ℕ} {n i : ℕ} {lawful : Bool} → Judging image n i lawful → n ≡ min (length image) 8192 / 8 → n ≤ i
+    → (lawful ≡ true) ↔ Lawful image
+judged {image} {n} {i} {lawful} J count end = (yes, J.no)
+  where
+    yes : lawful ≡ true → Lawful image
+    yes e =
+        let was = J.yes e in
+        let sized = was.0 in
+        let same : n ≡ slot_count image = grind arith in
+        record {
+          sized = sized;
+          legal = λ k lt. let s = stays_is (instruction_at image k) n (was.1 k (omega arith)) in (s.0, s.1);
+          inside = λ k x there.
+              let lt = slot_of image k x sized there in
+              let s = stays_is (instruction_at image k) n (was.1 k (omega arith)) in
+              let one : s.0 ≡ x = grind arith in
+              stays_both x (slot_count image) (ap (λ (y : Instruction). leaving_by y (slot_count image)) (sym one) ∙ ap (leaving_by s.0) (sym same) ∙ s.2);
+        }
 
 module _ (m : Model) (image : List ℕ) where
   -- the slots below i have their nodes

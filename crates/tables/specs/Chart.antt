@@ -1,12 +1,14 @@
 -- The chart of an image: its nodes and its starts, found together. Assumes nothing.
+--     staying_in o n               o is a legal instruction whose ways out stay in an image of n slots
 --     opened_at m i o              slot i with all its ways out, and its price in the model m, where o is its legal
 --                                  instruction; no node where it has none
 --     closed save n                a node as walks go on from it, given whether it is a save
 --     charted_at m i o             slot i as walks go along it; no node where it has no legal instruction
 --     started_after saves reached i     i is slot 0, or the slot after a save that is reached
 --     ChartOf g nodes starts       what the nodes and the starts say of a graph
-use Rattle.std.specs.Prelude.{◌≡◌, ℕ, ◌<◌, ◌≤◌, ◌-◌, Bool, false, if◌then◌else◌, ◌&&◌, ◌||◌, List, [], Some, None, Option, ◌==◌, slice_index_or}
+use Rattle.std.specs.Prelude.{◌≡◌, ℕ, ◌<◌, ◌≤◌, ◌-◌, Bool, false, if◌then◌else◌, ◌&&◌, ◌||◌, List, [], Some, None, Option, ◌==◌, is_none, slice_index_or}
 use Rattle.isa.specs.declared.instruction.Instruction.{Instruction}
+use Rattle.isa.specs.Lawful.{leaving_by}
 use Rattle.pricing.specs.Model.{Model}
 use Rattle.paths.specs.declared.node.Successors.TheVariants.{End}
 use Rattle.paths.specs.declared.node.Node.{Node}
@@ -17,6 +19,10 @@ use Rattle.walks.specs.ImageGraph.{price_of}
 use Rattle.search.specs.Reach.{Tells}
 use Rattle.tables.specs.Node.{successors_of, node}
 use Rattle.tables.specs.Walk.{onward_of}
+
+abbrev pub staying_in : Option Instruction → ℕ → Bool
+staying_in None n = false
+staying_in (Some x) n = is_none (leaving_by x n)
 
 abbrev pub opened_at : Model → ℕ → Option Instruction → Node
 opened_at m i None = no_node

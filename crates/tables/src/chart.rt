@@ -1,5 +1,5 @@
 // The chart of an image: its nodes and its starts, each slot decoded once.
-ghost use Rattle.std.specs.Prelude.{◌≡◌, ℕ, ◌<◌, ◌≤◌, false, length, replicate, slice_index_or};
+ghost use Rattle.std.specs.Prelude.{◌≡◌, ℕ, ◌<◌, ◌≤◌, ◌↔◌, ◌&&◌, true, false, length, replicate, slice_index_or};
 ghost use Rattle.isa.specs.Image.{instruction_at};
 ghost use Rattle.isa.specs.Lawful.{Lawful};
 ghost use Rattle.paths.specs.Net.{no_node};
@@ -9,11 +9,12 @@ ghost use Rattle.walks.specs.Certified.{is_save};
 ghost use Rattle.search.specs.Reach.{Reaches, Tells};
 ghost use Rattle.tables.specs.Node.{Tabled};
 ghost use Rattle.tables.specs.Start.{way_net, Begins};
-ghost use Rattle.tables.specs.Chart.{opened_at, closed, started_after, charted_at, ChartOf};
+ghost use Rattle.tables.specs.Chart.{staying_in, opened_at, closed, started_after, charted_at, ChartOf};
 
 use crate::node::successors_of;
-use isa::image::instruction_at;
+use isa::image::{instruction_at, well_sized};
 use isa::instruction::{Instruction, Role};
+use isa::lawful::leaving_by;
 use paths::node::{Node, Successors};
 use pricing::model::PriceModel;
 use search::reach::reach_from;
@@ -26,6 +27,8 @@ pub struct Chart {
     pub starts: [bool; 1024],
     // along all ways out, those of saves too
     pub reached: [bool; 1024],
+    // whether the image is lawful
+    pub lawful: bool,
 }
 
 // A slot with all its ways out, and its price; no node where it has no legal
@@ -49,18 +52,37 @@ fn is_save(there: Option<Instruction>) -> bool
     there.is_some_and(|instruction| instruction.role() == Role::Save)
 }
 
-// Gives each slot its node, and tells whether it is a save.
-fn open<M: PriceModel>(image: &[u8], model: &M, nodes: &mut [Node; 1024], saves: &mut [bool; 1024])
+// Whether what was lawful so far stays so: there is a legal instruction, whose
+// ways out stay in an image of so many slots.
+fn stays(lawful: bool, there: Option<Instruction>, count: u16) -> bool
+    ensures { result ≡ (lawful && staying_in there count) }
+{
+    lawful && there.is_some_and(|instruction| leaving_by(instruction, count).is_none())
+}
+
+// Gives each slot its node, and tells whether it is a save. Answers whether the
+// image is lawful.
+fn open<M: PriceModel>(
+    image: &[u8],
+    model: &M,
+    nodes: &mut [Node; 1024],
+    saves: &mut [bool; 1024],
+) -> bool
     requires nodes { nodes.old ≡ replicate 1024 no_node }
     requires saves { saves.old ≡ replicate 1024 false }
     ensures nodes { Tabled no_node nodes.new (λ i. opened_at (M.PriceModel.means model.now) i (instruction_at image.now i)) 1024 }
     ensures saves { Tabled false saves.new (λ i. is_save (role_in (instruction_at image.now i))) 1024 }
+    ensures lawful { (result ≡ true) ↔ Lawful image.now }
 {
-    for at in 0..image.len().min(8192) / 8 {
+    let mut lawful = well_sized(image);
+    let count = image.len().min(8192) / 8;
+    for at in 0..count {
         let there = instruction_at(image, at as u16);
         nodes[at] = opened_at(model, at as u16, there);
         saves[at] = is_save(there);
+        lawful = stays(lawful, there, count as u16);
     }
+    lawful
 }
 
 // Ends the walks at the saves.
@@ -100,16 +122,18 @@ impl Chart {
         ensures starts { Tells result.starts (Begins image.now) }
         ensures reached { Tells result.reached (Reaches (way_net image.now) 0) }
         ensures reachable { Lawful image.now → Tells result.reached (Reachable (graph_of (M.PriceModel.means model.now) image.now)) }
-        ensures lawful { Lawful image.now → ChartOf (graph_of (M.PriceModel.means model.now) image.now) result.nodes result.starts }
+        ensures lawful { (result.lawful ≡ true) ↔ Lawful image.now }
+        ensures chart { Lawful image.now → ChartOf (graph_of (M.PriceModel.means model.now) image.now) result.nodes result.starts }
     {
         // Filled where it lies, as it is large.
         let mut chart = Chart {
             nodes: [Node::default(); 1024],
             starts: [false; 1024],
             reached: [false; 1024],
+            lawful: false,
         };
         let mut saves = [false; 1024];
-        open(image, model, &mut chart.nodes, &mut saves);
+        chart.lawful = open(image, model, &mut chart.nodes, &mut saves);
         let saves = &saves[..image.len().min(8192) / 8];
         chart.reached = reach_from(&chart.nodes, 0);
         chart.starts = starts_after(saves, &chart.reached);

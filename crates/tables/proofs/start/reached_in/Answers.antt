@@ -1,8 +1,7 @@
-use Rattle.tables.proofs.Describing.{reached_told, reaches_told, way_table_ways}
+use Rattle.tables.proofs.Describing.{reaches_told, way_table_ways}
 use Rattle.tables.proofs.start.reached_in.Goals as goal
 
 pub returns : goal.returns
 returns c =
-    let any = reaches_told c.args.image.now c.way_table.result c.way_table.ensures.size (way_table_ways c.args.image.now c.way_table.result c.way_table.ensures)
-    c.reach_from.result c.reach_from.ensures in
-    record { any = any; told = λ lawful m. reached_told m c.args.image.now lawful c.reach_from.result any }
+    reaches_told c.args.image.now c.way_table.result c.way_table.ensures.size (way_table_ways c.args.image.now c.way_table.result c.way_table.ensures)
+    c.reach_from.result c.reach_from.ensures

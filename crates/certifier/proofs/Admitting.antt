@@ -13,9 +13,9 @@ use Rattle.isa.specs.Opcode.{kind_of}
 use Rattle.isa.specs.Rule.{fault_of, decoded_as}
 use Rattle.isa.specs.Image.{instruction_at}
 use Rattle.isa.specs.Refusal.{told_of, ok_unless}
-use Rattle.isa.specs.Lawful.{fault_in, fault_at, leaving_in, leaving_at, lawfulness, Breaks, length_bad, slot_bad, way_bad}
+use Rattle.isa.specs.Lawful.{fault_in, fault_at, leaving_in, leaving_at, lawfulness, Lawful, Breaks, length_bad, slot_bad, way_bad}
 use Rattle.isa.proofs.Judging.{judging}
-use Rattle.certifier.specs.Certify.{within_limits, admission, InOrder}
+use Rattle.certifier.specs.Certify.{within_limits, limited, admission, InOrder}
 
 -- a refusal by what the walks of an image do: 9 or 10
 abbrev pub of_walks : Refusal → Bool
@@ -74,6 +74,15 @@ module _ (image : List ℕ) (budget room : ℕ) where
           ap (λ (b : Bool). by b (leb 1024 room) (lawfulness image)) limits
           ∙ ap (λ (c : Bool). by true c (lawfulness image)) (le-leb 1024 room o.roomy)
           ∙ (judging image).accepts o.lawful
+
+  pub limits_refuse : (r : Refusal) → limited budget room ≡ Err r → admission image budget room ≡ Err r
+  limits_refuse r e = grind arith
+
+  pub limits_pass : limited budget room ≡ Ok tt → admission image budget room ≡ lawfulness image
+  limits_pass e = grind arith
+
+  pub in_order : limited budget room ≡ Ok tt → Lawful image → InOrder image budget room
+  in_order e lawful = admitted.0 (limits_pass e ∙ (judging image).accepts lawful)
 
   pub early_number : (r : Refusal) → admission image budget room ≡ Err r → Numbered r
   early_number r = go (within_limits budget) (leb 1024 room)

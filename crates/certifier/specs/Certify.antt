@@ -2,6 +2,7 @@
 --     m, image, budget, room        a price model, an image, a budget, and the length of the working list
 --     within_limits budget          the budget is 1 to 100,000,000
 --     result_of a                   the answer about a graph, as the call gives it
+--     limited budget room             the first check on budget and room that fails
 --     admission image budget room     the first check that fails before walks are looked at
 --     certification m image budget room     the answer: that check, and else the answer about the walks
 --     InOrder image budget room     the budget is within its limits, the working list has 1,024 entries, and the image is lawful
@@ -33,6 +34,9 @@ result_of (over s p) = Err (OverBudget s p)
 abbrev pub and_then : Result (Unit {0}) Refusal → Result (Unit {0}) Refusal → Result (Unit {0}) Refusal
 and_then (Ok u) later = later
 and_then (Err r) later = Err r
+
+abbrev pub limited : ℕ → ℕ → Result (Unit {0}) Refusal
+limited budget room = if within_limits budget then (if nat_le 1024 room then Ok tt else Err WorkingList) else Err Budget
 
 -- the budget, the room, and then the rules on images
 abbrev pub admission : List ℕ → ℕ → ℕ → Result (Unit {0}) Refusal

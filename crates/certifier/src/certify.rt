@@ -1,7 +1,7 @@
 // Certifying an image at a budget.
 ghost use Rattle.std.specs.Prelude.{◌≡◌, length, Ok};
 ghost use Rattle.walks.specs.ImageGraph.{graph_of};
-ghost use Rattle.certifier.specs.Certify.{within_limits, admission, certification, InOrder, Meaning, LeftBy, Left};
+ghost use Rattle.certifier.specs.Certify.{within_limits, limited, admission, certification, InOrder, Meaning, LeftBy, Left};
 
 use crate::judge::judge;
 use crate::priced::Priced;
@@ -10,6 +10,7 @@ use isa::refusal::Refusal;
 use paths::price::Price;
 use paths::worth::Worth;
 use pricing::model::PriceModel;
+use tables::chart::Chart;
 
 // The entries that a working list needs: one for each slot of the largest
 // image.
@@ -29,10 +30,9 @@ pub struct Certifier<'a, M> {
 }
 
 impl<M: PriceModel> Certifier<'_, M> {
-    // The checks that come before the walks, in their order.
-    pub fn admit(&self, image: &[u8], room: usize) -> Result<(), Refusal>
-        ensures value { result ≡ admission image.now self.now.budget room }
-        ensures order { result ≡ Ok tt → InOrder image.now self.now.budget room }
+    // The checks that need no look at the image.
+    fn check_limits(&self, room: usize) -> Result<(), Refusal>
+        ensures { result ≡ limited self.now.budget room }
     {
         if !within_limits(self.budget) {
             return Err(Refusal::Budget);
@@ -40,6 +40,15 @@ impl<M: PriceModel> Certifier<'_, M> {
         if room < ENTRIES {
             return Err(Refusal::WorkingList);
         }
+        Ok(())
+    }
+
+    // The checks that come before the walks, in their order.
+    pub fn admit(&self, image: &[u8], room: usize) -> Result<(), Refusal>
+        ensures value { result ≡ admission image.now self.now.budget room }
+        ensures order { result ≡ Ok tt → InOrder image.now self.now.budget room }
+    {
+        self.check_limits(room)?;
         lawful(image)
     }
 
@@ -48,8 +57,12 @@ impl<M: PriceModel> Certifier<'_, M> {
         ensures meaning { Meaning (M.PriceModel.means self.now.model.now) image.now self.now.budget (length worths.old) result }
         ensures left { LeftBy V.PathValue.kind (graph_of (M.PriceModel.means self.now.model.now) image.now) worths.old worths.new result }
     {
-        self.admit(image, worths.len())?;
-        judge(self, image, worths)
+        self.check_limits(worths.len())?;
+        let chart = Chart::of(image, self.model);
+        if !chart.lawful {
+            return lawful(image);
+        }
+        judge(self, image, &chart, worths)
     }
 
     // Accepts an image at a budget where no walk holds a slot twice and no

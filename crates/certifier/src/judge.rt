@@ -9,6 +9,7 @@ ghost use Rattle.walks.specs.ImageGraph.{graph_of};
 ghost use Rattle.search.specs.Reach.{Looped};
 ghost use Rattle.search.specs.Loops.{Least};
 ghost use Rattle.search.specs.Order.{Sorted};
+ghost use Rattle.tables.specs.Chart.{ChartOf};
 ghost use Rattle.certifier.specs.Clear.{Cleared};
 ghost use Rattle.certifier.specs.Fits.{TableOf};
 ghost use Rattle.certifier.specs.Judge.{over_by, over_at, Judged};
@@ -81,13 +82,15 @@ pub(crate) fn judge_order<V: Priced>(
 pub(crate) fn judge<V: Priced, M: PriceModel>(
     by: &Certifier<'_, M>,
     image: &[u8],
+    chart: &Chart,
     worths: &mut [V],
 ) -> Result<(), Refusal>
     requires lawful { Lawful image.now }
+    requires sized { (length chart.now.nodes ≡ 1024) × (length chart.now.starts ≡ 1024) }
+    requires chart { ChartOf (graph_of (M.PriceModel.means by.now.model.now) image.now) chart.now.nodes chart.now.starts }
     requires room { 1024 ≤ length worths.old }
     ensures { Judged V.PathValue.kind V.Priced.price (graph_of (M.PriceModel.means by.now.model.now) image.now) by.now.budget worths.old worths.new result }
 {
-    let chart = Chart::of(image, by.model);
     let count = image.len() / 8;
     let table = Table {
         nodes: &chart.nodes,

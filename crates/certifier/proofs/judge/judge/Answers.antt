@@ -12,10 +12,10 @@ returns-in_default g c =
     let m = g.M.PriceModel.means c.args.by.now.model.now in
     let image = c.args.image.now in
     let t = table_of_image m (g.met.M.PriceModel.bounded c.args.by.now.model.now) image c.requires.lawful
-    c.of-chart.result.nodes c.of-chart.result.starts (c.of-chart.ensures.lawful c.requires.lawful) in
+    c.args.chart.now.nodes c.args.chart.now.starts c.requires.chart in
     looping
-    (lowest_looped (graph_of m image) t.sound t.size c.of-chart.result.nodes t.described t.beyond (take (slot_count image) c.of-chart.result.starts)
-    (let e = c.of-chart.ensures.size in grind (arith, common_steps)) t.told
+    (lowest_looped (graph_of m image) t.sound t.size c.args.chart.now.nodes t.described t.beyond (take (slot_count image) c.args.chart.now.starts)
+    (let e = c.requires.sized.1 in grind (arith, common_steps)) t.told
     c.lowest_loop.result c.lowest_loop.ensures) (refl {a = c.args.worths.now})
 
 pub returns : goal.returns
@@ -24,5 +24,5 @@ returns g c =
     let image = c.args.image.now in
     c.judge_order.ensures (graph_of m image)
     (table_of_image m (g.met.M.PriceModel.bounded c.args.by.now.model.now) image c.requires.lawful
-    c.of-chart.result.nodes c.of-chart.result.starts (c.of-chart.ensures.lawful c.requires.lawful))
+    c.args.chart.now.nodes c.args.chart.now.starts c.requires.chart)
     c.args.worths.now c.clear.auto.worths c.clear.ensures

@@ -1,6 +1,1 @@
 pub mod Escaping
-pub mod Scaling
-pub mod Gathering
-pub mod Showing
-pub mod Regioning
-pub mod Tracing

@@ -1,8 +1,1 @@
 pub mod Escape
-pub mod Geometry
-pub mod Moment
-pub mod Column
-pub mod Columns
-pub mod Trace
-pub mod Counted
-pub mod Membership

@@ -1,9 +1,9 @@
 // The regions of a round, and their dearest prices as bars.
-use crate::geometry::scaled;
-use crate::regions::Region;
-use crate::survey::Survey;
 use crate::words::Grouped;
 use std::fmt;
+use survey::geometry::scaled;
+use survey::regions::Region;
+use survey::survey::Survey;
 
 // The length of the longest bar.
 const LENGTH: u32 = 400;

@@ -1,11 +1,11 @@
 // The picture of a run's charge.
 ghost use Rattle.std.specs.Prelude.{◌+◌, ◌≤◌};
-ghost use Rattle.report.specs.Geometry.{left, width};
+ghost use Rattle.survey.specs.Geometry.{left, width};
 
-use crate::column::Column;
-use crate::geometry::{HEIGHT, LEFT, TOP, WIDTH, edge_of, height_of};
 use crate::words::{Grouped, plural};
 use std::fmt;
+use survey::column::Column;
+use survey::geometry::{HEIGHT, LEFT, TOP, WIDTH, edge_of, height_of};
 
 // The columns of a run, and the charge that a recharge assures.
 #[derive(Clone, Copy)]

@@ -1,10 +1,10 @@
 // The head of a page: what was asked, what the certifier answered, how the run went.
 use crate::escape::in_page;
-use crate::trace::Trace;
 use crate::words::{Ended, Grouped, prices_words};
 use isa::refusal::Refusal;
 use pricing::prices::Prices;
 use std::fmt;
+use survey::trace::Trace;
 
 // Whether a round is accepted at a budget, in words.
 #[derive(Clone, Copy)]

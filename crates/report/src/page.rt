@@ -1,6 +1,6 @@
 // The page: a round, what the certifier says of it, and its run on a supply.
 ghost use Rattle.std.specs.Prelude.{◌≡◌, Some};
-ghost use Rattle.report.specs.declared.survey.Survey.{Survey};
+ghost use Rattle.survey.specs.declared.survey.Survey.{Survey};
 
 use crate::bars::Regions;
 use crate::chart::Chart;
@@ -9,8 +9,6 @@ use crate::head::{Asked, Verdict, Went};
 use crate::log_table::LogTable;
 use crate::slot_table::SlotTable;
 use crate::style::{PATTERNS, STYLE};
-use crate::survey::Survey;
-use crate::trace::Trace;
 use crate::walk_table::WalkTable;
 use crate::words::Grouped;
 use certifier::certify::Certifier;
@@ -22,6 +20,8 @@ use paths::worth::Worth;
 use pricing::prices::Prices;
 use std::fmt;
 use supply::supply::Supply;
+use survey::survey::Survey;
+use survey::trace::Trace;
 
 // The largest budget that the certifier takes.
 const MOST_BUDGET: u64 = 100_000_000;
@@ -66,7 +66,7 @@ impl<'a> Page<'a> {
     ghost use Rattle.std.specs.Prelude.{min};
     ghost use Rattle.pricing.specs.Prices.{model_of};
     ghost use Rattle.certifier.specs.Certify.{certification};
-    ghost use Rattle.report.specs.Trace.{Traced};
+    ghost use Rattle.survey.specs.Trace.{Traced};
 
     // Certifies the round at the supply's budget, or at the largest that the
     // certifier takes, and rehearses the script on the supply.

@@ -1,9 +1,9 @@
 // The listing of an image, slot by slot.
-use crate::survey::Survey;
 use crate::words::{Grouped, Shown, role_words};
 use isa::image::instruction_at;
 use isa::refusal::Refusal;
 use std::fmt;
+use survey::survey::Survey;
 use walks::image_graph::role_at;
 
 #[derive(Clone, Copy)]

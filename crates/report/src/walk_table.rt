@@ -1,9 +1,9 @@
 // The walk that costs most, slot by slot.
-use crate::survey::Survey;
 use crate::words::{Grouped, Shown};
 use isa::image::instruction_at;
 use std::fmt;
 use std::iter::successors;
+use survey::survey::Survey;
 
 // The dearest walk of an image from a start, against a budget.
 #[derive(Clone, Copy)]

@@ -1,7 +1,0 @@
-use Rattle.paths.specs.Net.{tabled}
-use Rattle.search.specs.Reach.{Reaches}
-use Rattle.report.specs.Counted.{Counted}
-use Rattle.report.proofs.regions.size_of.Given as goal
-
-abbrev pub invariant-loop-slot : goal.invariant-loop-slot
-invariant-loop-slot l = Counted (Reaches (tabled l.nodes) l.start) l.slot l.size

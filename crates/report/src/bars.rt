@@ -1,71 +1,54 @@
 // The regions of a round, and their dearest prices as bars.
+ghost use Rattle.std.specs.Prelude.{◌≡◌, ℕ, Option, max, unwrap_or};
+ghost use Rattle.survey.specs.Survey.{DearestPrice};
+
 use crate::words::Grouped;
 use std::fmt;
-use survey::geometry::scaled;
+use survey::bar::Bar;
 use survey::regions::Region;
 use survey::survey::Survey;
 
-// The length of the longest bar.
-const LENGTH: u32 = 400;
-
-// A price as a bar, against a budget; both at a scale on which the whole is the
-// length of the longest bar.
+// A bar, and in words whether the price is paid.
 #[derive(Clone, Copy)]
-pub struct Bar {
-    pub price: u64,
-    pub budget: u64,
-    pub whole: u64,
-}
+struct Drawn(Bar);
 
-impl Bar {
-    fn at(self, charge: u64) -> u32 {
-        scaled(charge, self.whole, LENGTH)
-    }
-
-    // Whether the price is paid, in words.
+impl Drawn {
     fn words<W: fmt::Write>(self, f: &mut fmt::Formatter<W>) -> fmt::Result {
-        if self.budget < self.price {
-            write!(
-                f,
-                "over budget by {}",
-                Grouped(self.price.saturating_sub(self.budget))
-            )
+        let bar = self.0;
+        if bar.budget < bar.price {
+            write!(f, "over budget by {}", Grouped(bar.excess()))
         } else {
-            write!(
-                f,
-                "fits, {} left",
-                Grouped(self.budget.saturating_sub(self.price))
-            )
+            write!(f, "fits, {} left", Grouped(bar.rest()))
         }
     }
 }
 
-impl fmt::Display for Bar {
+impl fmt::Display for Drawn {
     fn fmt<W: fmt::Write>(&self, f: &mut fmt::Formatter<W>) -> fmt::Result {
-        let budget = self.at(self.budget);
-        let price = self.at(self.price);
-        let paid = price.min(budget).max(2);
+        let bar = self.0;
+        let room = bar.room();
         write!(
             f,
             "<svg class=\"bar\" role=\"img\" viewBox=\"-2 0 410 20\"><title>{} of {}: ",
-            Grouped(self.price),
-            Grouped(self.budget)
+            Grouped(bar.price),
+            Grouped(bar.budget)
         )?;
         self.words(f)?;
         write!(
             f,
-            "</title><rect class=\"room\" x=\"0\" y=\"4\" width=\"{budget}\" height=\"12\"/><rect class=\"paid\" x=\"0\" y=\"4\" width=\"{paid}\" height=\"12\"/>"
+            "</title><rect class=\"room\" x=\"0\" y=\"4\" width=\"{room}\" height=\"12\"/><rect class=\"paid\" x=\"0\" y=\"4\" width=\"{}\" height=\"12\"/>",
+            bar.paid()
         )?;
-        if budget < price {
+        if bar.unpaid() > 0 {
             write!(
                 f,
-                "<rect class=\"unpaid\" x=\"{budget}\" y=\"4\" width=\"{}\" height=\"12\"/>",
-                price.saturating_sub(budget)
+                "<rect class=\"unpaid\" x=\"{room}\" y=\"4\" width=\"{}\" height=\"12\"/>",
+                bar.unpaid()
             )?;
         }
         write!(
             f,
-            "<path class=\"limit\" d=\"M{budget},0V20\"/></svg><span class=\"fits\">"
+            "<path class=\"limit\" d=\"M{room},0V20\"/></svg><span class=\"fits\">"
         )?;
         self.words(f)?;
         write!(f, "</span>")
@@ -80,15 +63,11 @@ pub struct Regions<'a> {
 }
 
 impl Regions<'_> {
-    // What the longest bar stands for.
-    fn whole(self) -> u64 {
-        let mut whole = self.budget;
-        for start in 0..1024 {
-            if self.survey.is_start(start) {
-                whole = whole.max(self.survey.worth_at(start).unwrap_or(0));
-            }
-        }
-        whole
+    // What the longest bar stands for: no price is more.
+    fn whole(self) -> u64
+        ensures { (price : Option ℕ) × DearestPrice self.entry.survey.now.starts self.entry.survey.now.worths price × (result ≡ max self.entry.budget (unwrap_or price 0)) }
+    {
+        self.budget.max(self.survey.dearest_price().unwrap_or(0))
     }
 
     fn row<W: fmt::Write>(
@@ -115,11 +94,11 @@ impl Regions<'_> {
             f,
             "<td class=\"n\">{}</td><td class=\"bars\">{}</td></tr>\n",
             Grouped(price),
-            Bar {
+            Drawn(Bar {
                 price,
                 budget: self.budget,
                 whole,
-            }
+            })
         )
     }
 }

@@ -1,10 +1,12 @@
 // The picture of a run's charge.
-ghost use Rattle.std.specs.Prelude.{◌+◌, ◌≤◌};
-ghost use Rattle.survey.specs.Geometry.{left, width};
+ghost use Rattle.std.specs.Prelude.{◌≡◌, ◌+◌, ◌≤◌, length, max};
+ghost use Rattle.survey.specs.Columns.{all_of};
+ghost use Rattle.survey.specs.Geometry.{left, width, edge_of};
 
 use crate::words::{Grouped, plural};
 use std::fmt;
 use survey::column::Column;
+use survey::columns::all_of;
 use survey::geometry::{HEIGHT, LEFT, TOP, WIDTH, edge_of, height_of};
 
 // The columns of a run, and the charge that a recharge assures.
@@ -21,26 +23,17 @@ const FALLS: u32 = 286;
 
 const CUTS: u32 = 306;
 
-// What a run of moments adds up to.
-fn all_of(columns: &[Column]) -> Column {
-    let mut all = Column::default();
-    for column in columns {
-        all = all.joined(*column);
-    }
-    all
-}
-
 impl Chart<'_> {
     // The charge at the top of the field.
-    fn greatest(self) -> u64 {
-        self.columns
-            .iter()
-            .map(|column| column.most)
-            .fold(self.budget, |most, charge| most.max(charge))
+    fn greatest(self) -> u64
+        ensures { result ≡ max self.entry.budget (all_of self.entry.columns.now).most }
+    {
+        self.budget.max(all_of(self.columns).most)
     }
 
     fn edge(self, column: usize) -> u32
-        ensures { result ≤ left + width }
+        ensures value { result ≡ edge_of column (length self.entry.columns.now) }
+        ensures within { result ≤ left + width }
     {
         edge_of(column, self.columns.len())
     }

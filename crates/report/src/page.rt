@@ -1,6 +1,7 @@
 // The page: a round, what the certifier says of it, and its run on a supply.
-ghost use Rattle.std.specs.Prelude.{◌≡◌, Some};
-ghost use Rattle.survey.specs.declared.survey.Survey.{Survey};
+ghost use Rattle.std.specs.Prelude.{◌≡◌};
+ghost use Rattle.pricing.specs.Prices.{model_of};
+ghost use Rattle.report.specs.Page.{leaves, SurveyOf};
 
 use crate::bars::Regions;
 use crate::chart::Chart;
@@ -50,13 +51,15 @@ pub struct Page<'a> {
 }
 
 // Whether the certifier left worths with its answer.
-fn leaves_worths(answer: Result<(), Refusal>) -> bool {
+fn leaves_worths(answer: Result<(), Refusal>) -> bool
+    ensures { result ≡ leaves answer }
+{
     matches!(answer, Ok(()) | Err(Refusal::OverBudget { .. }))
 }
 
 // What walks say of an image, where it is lawful.
 fn survey_of(image: &[u8], model: &Prices, worths: Option<[Worth; 1024]>) -> Option<Survey>
-    ensures { (survey : Survey) → result ≡ Some survey → survey.worths ≡ worths }
+    ensures { SurveyOf (model_of model.now) image.now worths result }
 {
     lawful(image).ok()?;
     Some(Survey::new(image, model, worths))
@@ -64,14 +67,15 @@ fn survey_of(image: &[u8], model: &Prices, worths: Option<[Worth; 1024]>) -> Opt
 
 impl<'a> Page<'a> {
     ghost use Rattle.std.specs.Prelude.{min};
-    ghost use Rattle.pricing.specs.Prices.{model_of};
     ghost use Rattle.certifier.specs.Certify.{certification};
+    ghost use Rattle.report.specs.Page.{Known};
     ghost use Rattle.survey.specs.Trace.{Traced};
 
     // Certifies the round at the supply's budget, or at the largest that the
     // certifier takes, and rehearses the script on the supply.
     pub fn new<S: Supply + Drop>(subject: Subject<'a>, supply: S) -> Page<'a>
         ensures answer { result.answer ≡ certification (model_of subject.entry.round.model.now) subject.entry.round.image.now (min (S.Supply.four supply).budget 100000000) 1024 }
+        ensures survey { Known (model_of subject.entry.round.model.now) subject.entry.round.image.now result.answer result.survey }
         ensures trace { Traced S.Supply model_of subject.entry.round supply subject.entry.calls.now result.trace }
     {
         let assured = supply.budget();
@@ -171,7 +175,7 @@ impl<'a> Page<'a> {
         write!(
             f,
             "<p>No walk costs more than this one, which costs {} of {}.</p>\n{}",
-            Grouped(survey.worth_at(start).unwrap_or(0)),
+            Grouped(survey.dearest_price().unwrap_or(0)),
             Grouped(self.budget),
             WalkTable {
                 image: self.subject.round.image,

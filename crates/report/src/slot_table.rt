@@ -3,6 +3,7 @@ use crate::words::{Grouped, Shown, role_words};
 use isa::image::instruction_at;
 use isa::refusal::Refusal;
 use std::fmt;
+use survey::remark::{Remark, remark_of};
 use survey::survey::Survey;
 use walks::image_graph::role_at;
 
@@ -27,22 +28,11 @@ impl fmt::Display for Bytes<'_> {
     }
 }
 
-// What a refusal says of a slot.
-fn remark(answer: Result<(), Refusal>, slot: u16) -> Option<&'static str> {
-    match answer {
-        Err(Refusal::Loop { slot: at }) if at == slot => Some("a walk comes here twice"),
-        Err(Refusal::OverBudget { slot: at, .. }) if at == slot => {
-            Some("a walk from here is over budget")
-        }
-        Err(
-            Refusal::IllegalOpcode { slot: at }
-            | Refusal::NoRegister { slot: at }
-            | Refusal::FieldNotZero { slot: at }
-            | Refusal::FramePointer { slot: at }
-            | Refusal::NoHelper { slot: at }
-            | Refusal::WayOut { slot: at },
-        ) if at == slot => Some("refused here"),
-        _ => None,
+fn remark_words(remark: Remark) -> &'static str {
+    match remark {
+        Remark::Twice => "a walk comes here twice",
+        Remark::Dear => "a walk from here is over budget",
+        Remark::Unlawful => "refused here",
     }
 }
 
@@ -97,7 +87,8 @@ impl SlotTable<'_> {
             Bytes(bytes),
             Shown(instruction_at(self.image, slot))
         )?;
-        if let Some(words) = remark(self.answer, slot) {
+        if let Some(remark) = remark_of(self.answer, slot) {
+            let words = remark_words(remark);
             write!(f, " <strong class=\"here\">{words}</strong>")?;
         }
         write!(f, "</td><td>{}</td>", role_words(role_at(self.image, slot)))?;

@@ -3,7 +3,7 @@ use crate::words::{Grouped, Shown};
 use isa::image::instruction_at;
 use std::fmt;
 use std::iter::successors;
-use survey::survey::Survey;
+use survey::survey::{Row, Survey};
 
 // The dearest walk of an image from a start, against a budget.
 #[derive(Clone, Copy)]
@@ -15,7 +15,8 @@ pub struct WalkTable<'a> {
 }
 
 impl WalkTable<'_> {
-    fn row<W: fmt::Write>(self, f: &mut fmt::Formatter<W>, slot: u16, sum: u64) -> fmt::Result {
+    fn row<W: fmt::Write>(self, f: &mut fmt::Formatter<W>, row: Row) -> fmt::Result {
+        let Row { slot, sum } = row;
         let over = self.budget < sum;
         write!(
             f,
@@ -40,10 +41,9 @@ impl fmt::Display for WalkTable<'_> {
             "<div class=\"wide\"><table><caption>The dearest walk, from slot {}</caption>\n<thead><tr><th scope=\"col\" class=\"n\">Slot</th><th scope=\"col\">Instruction</th><th scope=\"col\" class=\"n\">Price</th><th scope=\"col\" class=\"n\">Running sum</th></tr></thead>\n<tbody>\n",
             self.start
         )?;
-        let mut sum = 0u64;
-        for slot in successors(Some(self.start), |slot| self.survey.onward(*slot)).take(1024) {
-            sum = sum.saturating_add(self.survey.price_at(slot));
-            self.row(f, slot, sum)?;
+        let first = self.survey.first_row(self.start);
+        for row in successors(Some(first), |row| self.survey.row_after(*row)).take(1024) {
+            self.row(f, row)?;
         }
         write!(f, "</tbody></table></div>\n")
     }

@@ -1,9 +1,9 @@
 -- Columns that stand for moments, as moments are added and columns are joined.
-use Rattle.std.proofs.Common.{List, [], ◌∷◌, ◌++◌, refl, sym, ap, ◌∙◌, subst, append_assoc, append-nil}
+use Rattle.std.proofs.Common.{List, [], ◌∷◌, ◌++◌, length, refl, sym, ap, ◌∙◌, subst, arith, append_assoc, append-nil}
 use Rattle.survey.specs.declared.moment.Moment.{Moment}
 use Rattle.survey.specs.declared.column.Column.{Column}
 use Rattle.survey.specs.Column.{Gathers, joined}
-use Rattle.survey.specs.Columns.{Shows, halved}
+use Rattle.survey.specs.Columns.{Shows, all_of, halved, joined_on}
 use Rattle.survey.proofs.Gathering.{gathers_joined}
 
 pub shows_halved : (cs : List Column) (ms : List Moment) → Shows cs ms → Shows (halved cs) ms
@@ -47,3 +47,13 @@ shows_extend (d ∷ cs) last ms c m g shows = (
 -- where there is nothing more, they stay
 pub shows_nothing : (cs : List Column) (ms : List Moment) → Shows cs ms → Shows cs (ms ++ [])
 shows_nothing cs ms shows = subst (Shows cs) (sym (append-nil ms)) shows
+
+gathers_on : (cs : List Column) (c : Column) (xs ys : List Moment) → Gathers c xs → Shows cs ys → Gathers (joined_on c cs) (xs ++ ys)
+gathers_on [] c xs ys g shows = subst (Gathers c) (sym (ap (λ l. xs ++ l) shows ∙ append-nil xs)) g
+gathers_on (d ∷ ds) c xs ys g shows =
+    subst (Gathers (joined_on (joined c d) ds)) (append_assoc xs shows.0 shows.1 ∙ ap (λ l. xs ++ l) (sym shows.2))
+    (gathers_on ds (joined c d) (xs ++ shows.0) shows.1 (gathers_joined c d xs shows.0 g shows.3) shows.4)
+
+pub gathers_all : (cs : List Column) (m : Moment) (ms : List Moment) → Shows cs (m ∷ ms) → Gathers (all_of cs) (m ∷ ms)
+gathers_all [] m ms shows = absurd (omega (arith, ap length shows))
+gathers_all (c ∷ cs) m ms shows = subst (Gathers (joined_on c cs)) (sym shows.2) (gathers_on cs c shows.0 shows.1 shows.3 shows.4)

@@ -2,6 +2,8 @@
 --     most_columns        how many there are at most
 --     Shows cs ms         the columns stand for the moments ms: each for some that follow one another, in their order, and none is left out
 --     halved cs           the columns joined two by two
+--     joined_on c cs      the column c joined with those of cs, one after another
+--     all_of cs           the columns joined into one; an empty one where there are none
 use Rattle.std.specs.Prelude.{◌≡◌, ℕ, List, [], ◌∷◌, ◌++◌}
 use Rattle.survey.specs.declared.moment.Moment.{Moment}
 use Rattle.survey.specs.declared.column.Column.{Column}
@@ -18,3 +20,11 @@ abbrev pub halved : List Column → List Column
 halved [] = []
 halved (c ∷ []) = c ∷ []
 halved (c ∷ d ∷ cs) = joined c d ∷ halved cs
+
+abbrev pub joined_on : Column → List Column → Column
+joined_on c [] = c
+joined_on c (d ∷ ds) = joined_on (joined c d) ds
+
+abbrev pub all_of : List Column → Column
+all_of [] = record { moments = 0; least = 0; most = 0; saves = 0; falls = 0; cuts = 0 }
+all_of (c ∷ cs) = joined_on c cs

@@ -6,3 +6,5 @@ pub mod Trace
 pub mod Counted
 pub mod Membership
 pub mod Survey
+pub mod Bar
+pub mod Remark

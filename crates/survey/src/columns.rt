@@ -4,7 +4,7 @@ ghost use Rattle.std.specs.Option.{option_to_list};
 ghost use Rattle.arrayvec.specs.ArrayVec.{array_vec_len};
 ghost use Rattle.survey.specs.declared.moment.Moment.{Moment};
 ghost use Rattle.survey.specs.Column.{Gathers};
-ghost use Rattle.survey.specs.Columns.{most_columns, Shows, halved};
+ghost use Rattle.survey.specs.Columns.{most_columns, Shows, all_of, halved, joined_on};
 
 use crate::column::Column;
 use crate::moment::Moment;
@@ -104,5 +104,28 @@ impl Columns {
             Some(moment) => self.add(moment),
             None => (),
         }
+    }
+}
+
+// A column joined with others, one after another.
+fn joined_on(first: Column, others: &[Column]) -> Column
+    ensures { result ≡ joined_on first others.now }
+{
+    let mut all = first;
+    for column in others {
+        all = all.joined(*column);
+    }
+    all
+}
+
+// The columns joined into one, which stands for all moments.
+#[tactic(auto, using(crate::proofs::Showing::gathers_all))]
+pub fn all_of(columns: &[Column]) -> Column
+    ensures value { result ≡ all_of columns.now }
+    ensures gathers { (m : Moment) (ms : List Moment) → Shows columns.now (m ∷ ms) → Gathers result (m ∷ ms) }
+{
+    match columns.split_first() {
+        Some((first, others)) => joined_on(*first, others),
+        None => Column::default(),
     }
 }

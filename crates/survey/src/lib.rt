@@ -2,11 +2,13 @@
 // the places at which the picture of the run is drawn.
 #![tactic(auto)]
 
+pub mod bar;
 pub mod column;
 pub mod columns;
 pub mod geometry;
 pub mod moment;
 pub mod regions;
+pub mod remark;
 pub mod survey;
 #[cfg(test)]
 mod tests;

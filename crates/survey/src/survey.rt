@@ -23,9 +23,16 @@ pub struct Survey {
     worths: Option<[Worth; 1024]>,
 }
 
+// A row of the dearest walk: a slot, and what the walk costs up to it, with it.
+#[derive(Clone, Copy, PartialEq, Eq, Debug)]
+pub struct Row {
+    pub slot: u16,
+    pub sum: u64,
+}
+
 impl Survey {
     ghost use Rattle.survey.specs.Membership.{no_region};
-    ghost use Rattle.survey.specs.Survey.{DearestOf, Surveyed, onward_in, worth_in};
+    ghost use Rattle.survey.specs.Survey.{DearestOf, DearestPrice, Surveyed, onward_in, row_after, row_at, worth_in};
 
     pub fn new<M: PriceModel>(image: &[u8], model: &M, worths: Option<[Worth; 1024]>) -> Survey
         ensures { Surveyed (M.PriceModel.means model.now) image.now worths result }
@@ -82,7 +89,7 @@ impl Survey {
         ensures { result ≡ worth_in self.now.worths slot }
     {
         let worths = self.worths?;
-        worths.get(slot as usize).map(|worth| worth.price)
+        Some(worths.get(slot as usize).map_or(0, |worth| worth.price))
     }
 
     // The start with the dearest walk, where the certifier left worths.
@@ -93,11 +100,44 @@ impl Survey {
         Some(dearest_start(&self.starts, &worths))
     }
 
+    // What the walk from that start costs.
+    pub fn dearest_price(&self) -> Option<u64>
+        ensures { DearestPrice self.now.starts self.now.worths result }
+    {
+        let worths = self.worths?;
+        let start = dearest_start(&self.starts, &worths);
+        Some(worths.get(start as usize).map_or(0, |worth| worth.price))
+    }
+
     // Where the dearest walk goes on from a slot, or none where it ends.
     pub fn onward(&self, slot: u16) -> Option<u16>
         ensures { result ≡ onward_in self.now.worths self.now.nodes slot }
     {
         let worths = self.worths?;
         onward(&self.nodes, &worths, slot)
+    }
+
+    fn row_at(&self, slot: u16, before: u64) -> Row
+        ensures { result ≡ row_at self.now.nodes slot before }
+    {
+        Row {
+            slot,
+            sum: before.saturating_add(self.price_at(slot)),
+        }
+    }
+
+    // The first row of the walk from a slot.
+    pub fn first_row(&self, slot: u16) -> Row
+        ensures { result ≡ row_at self.now.nodes slot 0 }
+    {
+        self.row_at(slot, 0)
+    }
+
+    // The row after another in the dearest walk, or none where the walk ends.
+    pub fn row_after(&self, row: Row) -> Option<Row>
+        ensures { result ≡ row_after self.now row }
+    {
+        let slot = self.onward(row.slot)?;
+        Some(self.row_at(slot, row.sum))
     }
 }

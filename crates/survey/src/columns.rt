@@ -1,10 +1,10 @@
 // The columns of the charge picture, however long the run.
-ghost use Rattle.std.specs.Prelude.{◌≡◌, ◌+◌, ◌*◌, ◌<◌, ◌≤◌, [], ◌∷◌, ◌++◌, List, length};
+ghost use Rattle.std.specs.Prelude.{◌≡◌, ◌+◌, ◌*◌, ◌<◌, ◌≤◌, true, false, max, [], ◌∷◌, ◌++◌, List, length};
 ghost use Rattle.std.specs.Option.{option_to_list};
 ghost use Rattle.arrayvec.specs.ArrayVec.{array_vec_len};
 ghost use Rattle.survey.specs.declared.moment.Moment.{Moment};
 ghost use Rattle.survey.specs.Column.{Gathers};
-ghost use Rattle.survey.specs.Columns.{most_columns, Shows, all_of, halved, joined_on};
+ghost use Rattle.survey.specs.Columns.{most_columns, Shows, all_of, complete, halved, joined_on};
 
 use crate::column::Column;
 use crate::moment::Moment;
@@ -54,7 +54,9 @@ impl Columns {
     }
 
     // Whether the last column has as many moments as the first.
-    fn complete(&self) -> bool {
+    fn complete(&self) -> bool
+        ensures { result ≡ complete self.now.list.items }
+    {
         match (self.list.first(), self.list.last()) {
             (Some(first), Some(last)) => first.moments <= last.moments,
             _ => true,
@@ -63,7 +65,8 @@ impl Columns {
 
     // Joins a column to the last.
     fn extend(&mut self, column: Column)
-        ensures { (ms : List Moment) (m : Moment) → Gathers column (m ∷ []) → Shows self.old.list.items ms → Shows self.new.list.items (ms ++ m ∷ []) }
+        ensures size { array_vec_len self.new.list ≡ max 1 (array_vec_len self.old.list) }
+        ensures shows { (ms : List Moment) (m : Moment) → Gathers column (m ∷ []) → Shows self.old.list.items ms → Shows self.new.list.items (ms ++ m ∷ []) }
     {
         match self.list.pop() {
             Some(last) => self.list.push(last.joined(column)),
@@ -74,6 +77,7 @@ impl Columns {
     // Joins the columns two by two where there is no room for another.
     fn make_room(&mut self)
         ensures room { array_vec_len self.new.list < most_columns }
+        ensures kept { array_vec_len self.old.list < most_columns → self.new.list.items ≡ self.old.list.items }
         ensures shows { (ms : List Moment) → Shows self.old.list.items ms → Shows self.new.list.items ms }
     {
         if self.list.is_full() {
@@ -81,10 +85,13 @@ impl Columns {
         }
     }
 
-    // Adds a moment at the end. Where there is no more room for columns, each two
-    // become one.
+    // Adds a moment at the end: to the last column until that has as many as the
+    // first, and then as a column of its own. Where there is no more room for columns,
+    // each two become one.
     pub fn add(&mut self, moment: Moment)
         ensures few { array_vec_len self.new.list ≤ most_columns }
+        ensures same { complete self.old.list.items ≡ false → array_vec_len self.new.list ≡ array_vec_len self.old.list }
+        ensures more { complete self.old.list.items ≡ true → array_vec_len self.old.list < most_columns → array_vec_len self.new.list ≡ array_vec_len self.old.list + 1 }
         ensures shows { (ms : List Moment) → Shows self.old.list.items ms → Shows self.new.list.items (ms ++ moment ∷ []) }
     {
         let column = Column::of(moment);

@@ -111,11 +111,9 @@ impl fmt::Display for Regions<'_> {
             "<div class=\"wide\"><table><caption>Each region's dearest walk against the budget of {}</caption>\n<thead><tr><th scope=\"col\">Region</th><th scope=\"col\" class=\"n\">Starts at slot</th><th scope=\"col\" class=\"n\">Slots</th><th scope=\"col\" class=\"n\">Dearest price</th><th scope=\"col\">Against the budget</th></tr></thead>\n<tbody>\n",
             Grouped(self.budget)
         )?;
-        let mut number = 0u16;
         for start in 0..1024u16 {
             if self.survey.is_start(start) {
-                number = number.saturating_add(1);
-                self.row(f, Region { number, start }, whole)?;
+                self.row(f, self.survey.region_of(start), whole)?;
             }
         }
         write!(f, "</tbody></table></div>\n")

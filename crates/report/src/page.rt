@@ -74,6 +74,9 @@ impl<'a> Page<'a> {
     // Certifies the round at the supply's budget, or at the largest that the
     // certifier takes, and rehearses the script on the supply.
     pub fn new<S: Supply + Drop>(subject: Subject<'a>, supply: S) -> Page<'a>
+        ensures subject { result.subject ≡ subject.entry }
+        ensures assured { result.assured ≡ (S.Supply.four supply).budget }
+        ensures budget { result.budget ≡ min (S.Supply.four supply).budget 100000000 }
         ensures answer { result.answer ≡ certification (model_of subject.entry.round.model.now) subject.entry.round.image.now (min (S.Supply.four supply).budget 100000000) 1024 }
         ensures survey { Known (model_of subject.entry.round.model.now) subject.entry.round.image.now result.answer result.survey }
         ensures trace { Traced S.Supply model_of subject.entry.round supply subject.entry.calls.now result.trace }

@@ -1,4 +1,5 @@
-// The rig: a round on a supply that may say no.
+// The rig: a round on a supply that may say no. What each step goes through is
+// inlined, since the calls took longer than the work.
 #![tactic(auto)]
 
 pub mod begin;

@@ -35,6 +35,7 @@ fn is_save(effect: Effect) -> bool
 impl Standing {
     // Counts an attempt and makes its step, before it is drawn for. The state is
     // stepped where it lies, since a copy of it takes longer than the step.
+    #[inline(always)]
     fn advance<M: PriceModel>(&mut self, round: &Round<M>) -> Due
         requires { self.old.attempts < 1000000 }
         ensures { Advanced (machine_of M.PriceModel.means round.now) self.old result self.new }
@@ -49,6 +50,7 @@ impl Standing {
     }
 
     // The new state stands, and a save or an ending makes it the kept one.
+    #[inline(always)]
     fn stand(&mut self, saves: bool) -> Attempt
         requires { self.old.saves < self.old.attempts }
         ensures { Stood saves self.old result self.new }
@@ -64,6 +66,7 @@ impl Standing {
 
     // Attempts one step. On a yes the new state stands; on a no the kept state
     // returns.
+    #[inline(always)]
     fn attempt<S: Supply, M: PriceModel>(
         &mut self,
         supply: &mut S,

@@ -3,6 +3,7 @@ pub mod Begin
 pub mod Cut
 pub mod Held
 pub mod Least
+pub mod Lent
 pub mod Prices
 pub mod Questions
 pub mod Rehearse

@@ -7,6 +7,8 @@ pub mod cut;
 pub mod held;
 pub mod image;
 pub mod least;
+mod lent;
+mod listed;
 pub mod prices;
 pub mod questions;
 pub mod rehearse;

@@ -1,8 +1,8 @@
 -- The plain numbers tell the rig that steps, and the prices tell the model.
 use Rattle.std.proofs.Common.{IfSome, sym, subst}
-use Rattle.pricing.specs.Prices.{model_of}
 use Rattle.rig.specs.Seen.{rig_on}
 use Rattle.yatesorrel_c.specs.Attempt.{AttemptDone}
+use Rattle.yatesorrel_c.specs.Lent.{lent_model}
 use Rattle.yatesorrel_c.proofs.Telling.{of_rig, begun, lying, written}
 use Rattle.yatesorrel_c.proofs.Whole.{stepped_whole}
 use Rattle.yatesorrel_c.proofs.attempt.yatesorrel_rig_step.Goals as goal
@@ -17,7 +17,7 @@ pub returns-clause-stepped : goal.returns-clause-stepped
 returns-clause-stepped c = λ r w e.
     let image = c.args.image.now in
     let tape = c.args.tape.now in
-    let model = model_of c.in-Some-prices.prices in
+    let model = lent_model c.in-Some-prices.prices in
     let before = rig_on c.in-Some.source c.args.rig.now.standing in
     let after = rig_on c.step.new.supply c.step.new.self in
     let step = c.in-Some-step.ensures in

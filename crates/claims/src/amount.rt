@@ -5,6 +5,7 @@ ghost use Rattle.claims.specs.Amount.{spending_of, amount_for};
 use machine::effect::{Effect, Work};
 use pricing::model::PriceModel;
 
+#[inline(always)]
 fn spending_of<M: PriceModel>(model: &M, work: Work) -> u32
     ensures { result ≡ spending_of (M.PriceModel.means model.now) work }
 {
@@ -12,6 +13,7 @@ fn spending_of<M: PriceModel>(model: &M, work: Work) -> u32
 }
 
 // The one amount that a step of this effect draws, with so many pending records.
+#[inline(always)]
 pub fn amount_for<M: PriceModel>(model: &M, effect: Effect, pending: usize) -> u32
     ensures { result ≡ amount_for (M.PriceModel.means model.now) effect pending }
 {

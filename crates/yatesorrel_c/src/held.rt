@@ -30,6 +30,7 @@ impl PlainRig {
 
     // The supply of the rig of these numbers, or none where no rig has them. The
     // rest of the rig is what stands here, so its calls copy no state.
+    #[inline(always)]
     pub(crate) fn source(&self) -> Option<Source>
         ensures { RigIn self.now result }
     {

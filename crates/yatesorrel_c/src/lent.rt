@@ -26,6 +26,7 @@ impl PriceModel for LentPrices<'_> {
         }
     }
 
+    #[inline(always)]
     fn spending(&self, opcode: u8, imm: i32, a: u64, b: u64) -> u32 {
         match self {
             LentPrices::Operand => OperandModel.spending(opcode, imm, a, b),
@@ -40,6 +41,7 @@ impl PriceModel for LentPrices<'_> {
         }
     }
 
+    #[inline(always)]
     fn saving(&self, pending: usize) -> u32 {
         match self {
             LentPrices::Operand => OperandModel.saving(pending),

@@ -68,6 +68,7 @@ impl PlainSupply {
         }
     }
 
+    #[inline(always)]
     fn capacitor(&self) -> Option<Capacitor>
         ensures { CapacitorIn self.now result }
     {
@@ -87,6 +88,7 @@ impl PlainSupply {
         })
     }
 
+    #[inline(always)]
     fn mains(&self) -> Option<Mains>
         ensures { MainsIn self.now result }
     {
@@ -98,6 +100,7 @@ impl PlainSupply {
     }
 
     // The supply of these numbers, or none where no supply has them.
+    #[inline(always)]
     pub(crate) fn source(&self) -> Option<Source>
         ensures { SupplyIn self.now result }
     {

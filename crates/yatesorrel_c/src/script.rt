@@ -127,11 +127,21 @@ impl PlainReply {
     pub(crate) fn of(reply: Reply) -> PlainReply
         ensures { result ≡ reply_in reply }
     {
-        match reply {
+        let told = match reply {
             Reply::Step(attempt) => PlainReply::of_attempt(attempt),
             Reply::Cut(answer) => PlainReply::of_refusal(answer.err()),
             Reply::Count(count) => PlainReply::of_count(count),
             Reply::Record(found) => PlainReply::of_record(found),
+        };
+        // Made anew of its numbers: a reply that is copied takes the gaps between
+        // them along, and the next copy waits for that.
+        let Record { sensor, value } = told.kept;
+        PlainReply {
+            refusal: told.refusal,
+            said_yes: told.said_yes,
+            ending: told.ending,
+            count: told.count,
+            kept: Record { sensor, value },
         }
     }
 }

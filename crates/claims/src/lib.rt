@@ -1,5 +1,6 @@
 // The run claims: what a round that was accepted keeps on every supply. The
 // functions here carry the theorems.
+// What a step draws is inlined, since the call took longer than the work.
 #![tactic(auto)]
 
 pub mod amount;

@@ -1,4 +1,5 @@
-// The library for C: an export for each call, over plain structs and lists.
+// The library for C: an export for each call, over plain structs and lists. What
+// a step of a rig reads is inlined, so that it does not go through memory.
 #![tactic(auto)]
 
 pub mod attempt;

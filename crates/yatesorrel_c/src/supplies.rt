@@ -68,7 +68,6 @@ impl PlainSupply {
         }
     }
 
-    #[inline(always)]
     fn capacitor(&self) -> Option<Capacitor>
         ensures { CapacitorIn self.now result }
     {

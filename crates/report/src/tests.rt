@@ -224,11 +224,26 @@ fn a_budget_that_is_one_too_small(rt: HostRuntime) -> Result<(), AllocError> {
     assert_eq!(rt; times(text, "fits, 78 left"), 2);
     assert_eq!(rt; times(text, "<strong>over</strong>"), 1);
     assert_eq!(rt; times(text, "<tr class=\"over\">"), 1);
-    assert_eq!(rt; times(text, "class=\"unpaid\" x=\"398\" y=\"4\" width=\"2\""), 1);
+    assert_eq!(rt;
+        times(text, "class=\"unpaid\" x=\"398\" y=\"4\" width=\"2\""),
+        1
+    );
     assert_eq!(rt; times(text, "which costs 241 of 240."), 1);
     assert_eq!(rt; times(text, "a walk from here is over budget"), 1);
-    assert_eq!(rt; times(text, "t1\">R1</th><td class=\"n\">0</td><td class=\"n\">3</td>"), 1);
-    assert_eq!(rt; times(text, "t2\">R2</th><td class=\"n\">3</td><td class=\"n\">2</td>"), 1);
+    assert_eq!(rt;
+        times(
+            text,
+            "t1\">R1</th><td class=\"n\">0</td><td class=\"n\">3</td>"
+        ),
+        1
+    );
+    assert_eq!(rt;
+        times(
+            text,
+            "t2\">R2</th><td class=\"n\">3</td><td class=\"n\">2</td>"
+        ),
+        1
+    );
     Ok(())
 }
 

@@ -5,7 +5,7 @@
 --     halved cs           the columns joined two by two
 --     joined_on c cs      the column c joined with those of cs, one after another
 --     all_of cs           the columns joined into one; an empty one where there are none
-use Rattle.std.specs.Prelude.{◌≡◌, ℕ, Bool, true, List, [], ◌∷◌, ◌++◌, length, nat_le, slice_index_or, ◌-◌}
+use Rattle.std.specs.Prelude.{◌≡◌, ℕ, Bool, List, [], ◌∷◌, ◌++◌, length, nat_le, slice_index_or, ◌-◌}
 use Rattle.survey.specs.declared.moment.Moment.{Moment}
 use Rattle.survey.specs.declared.column.Column.{Column}
 use Rattle.survey.specs.Column.{Gathers, joined}

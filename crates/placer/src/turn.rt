@@ -70,6 +70,7 @@ pub(crate) fn turn_all(image: &[u8], chart: &Chart, saving: u64) -> Turned
         nodes,
         starts,
         reached,
+        ..
     } = chart;
     Turned {
         nodes: table_of(|at| turned_node(nodes[at as usize], idle[at as usize], saving)),

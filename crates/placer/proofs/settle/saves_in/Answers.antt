@@ -16,7 +16,7 @@ returns g c n =
     let ok = allowed m.dearest h by.budget in
     let nodes = c.of-chart.result.nodes in
     let turned = c.turn_all-turned in
-    let plain = plain_of m (g.met.M.PriceModel.bounded by.model.now) image lawful nodes c.of-chart.result.starts (c.of-chart.ensures.lawful lawful) in
+    let plain = plain_of m (g.met.M.PriceModel.bounded by.model.now) image lawful nodes c.of-chart.result.starts (c.of-chart.ensures.chart lawful) in
     let turns = subst (λ (s : ℕ). Turns s h nodes turned.result) c.dearest.ensures (turned.ensures.turns m) in
     ap (λ (P : ℕ → Bool). P n) (c.settle.ensures m.dearest h plain (omega arith) turns)
     ∙ ap (λ (P : ℕ → Bool). cond (ok P) (dropped ok h.size 0 P) P n)

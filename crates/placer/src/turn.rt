@@ -13,8 +13,8 @@ ghost use Rattle.placer.specs.Turned.{marked, turned_node, turned_start, Turns};
 use crate::turned::Turned;
 use isa::instruction::Role;
 use paths::node::{Node, Successors};
+use std::array;
 use tables::chart::Chart;
-use tables::table::table_of;
 use walks::image_graph::role_at;
 
 #[tactic(auto, unfolding(walks::specs::ImageGraph::role_at))]
@@ -28,7 +28,7 @@ fn is_idle(image: &[u8], at: u16) -> bool
 fn idle_slots(image: &[u8]) -> [bool; 1024]
     ensures { Tabled false result (idles_in image.now) 1024 }
 {
-    table_of(|at| is_idle(image, at))
+    array::from_fn(|at| is_idle(image, at as u16))
 }
 
 fn turned_node(plain: Node, idle: bool, saving: u64) -> Node
@@ -73,8 +73,8 @@ pub(crate) fn turn_all(image: &[u8], chart: &Chart, saving: u64) -> Turned
         ..
     } = chart;
     Turned {
-        nodes: table_of(|at| turned_node(nodes[at as usize], idle[at as usize], saving)),
-        starts: table_of(|at| turned_start(starts, &idle, reached, at as usize)),
+        nodes: array::from_fn(|at| turned_node(nodes[at], idle[at], saving)),
+        starts: array::from_fn(|at| turned_start(starts, &idle, reached, at)),
         saves: idle,
     }
 }

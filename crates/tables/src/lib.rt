@@ -5,5 +5,5 @@
 pub mod chart;
 mod node;
 pub mod start;
-pub mod table;
+mod table;
 pub mod walk;

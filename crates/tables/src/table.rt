@@ -5,7 +5,7 @@ use std::array;
 
 // The table of what a function says of each slot.
 // Stays: the device has 1,024 slots, and a library has no heap.
-pub fn table_of<T, F: Fn(u16) -> T>(entry: F) -> [T; 1024]
+pub(crate) fn table_of<T, F: Fn(u16) -> T>(entry: F) -> [T; 1024]
     requires { (at : ℕ) → at < 1024 → F.pre entry at }
     ensures size { length result ≡ 1024 }
     ensures holds { (at : ℕ) (d : T) → at < 1024 → F.post entry at (slice_index_or result at d) }

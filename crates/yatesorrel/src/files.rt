@@ -38,12 +38,16 @@ fn read_front(rt: &HostRuntime, file: &str) -> io::Result<Vec<u8>> {
     Ok(front)
 }
 
+pub fn read_image<'a>(rt: &HostRuntime, round: &'a str) -> Result<Vec<u8>, Trouble<'a>> {
+    read_front(rt, round).map_err(|why| Trouble::Unreadable { file: round, why })
+}
+
 fn read_text<'a>(rt: &HostRuntime, file: &'a str) -> Result<String, Trouble<'a>> {
     fs::read_to_string(rt, file).map_err(|why| Trouble::Unreadable { file, why })
 }
 
 // The prices of a file, or of the operand model where no file is named.
-fn read_price_list<'a>(rt: &HostRuntime, file: Option<&'a str>) -> Result<Prices, Trouble<'a>> {
+pub fn read_price_list<'a>(rt: &HostRuntime, file: Option<&'a str>) -> Result<Prices, Trouble<'a>> {
     let Some(file) = file else {
         return Ok(Prices::Operand);
     };
@@ -57,9 +61,10 @@ pub fn read_round<'a>(
     round: &'a str,
     prices: Option<&'a str>,
 ) -> Result<Priced, Trouble<'a>> {
-    let image = read_front(rt, round).map_err(|why| Trouble::Unreadable { file: round, why })?;
-    let prices = read_price_list(rt, prices)?;
-    Ok(Priced { image, prices })
+    Ok(Priced {
+        image: read_image(rt, round)?,
+        prices: read_price_list(rt, prices)?,
+    })
 }
 
 pub fn read_readings<'a>(rt: &HostRuntime, file: &'a str) -> Result<Vec<u32>, Trouble<'a>> {

@@ -20,7 +20,7 @@ mod walk;
 use certify::certify_round;
 use claims::call::Call;
 use claims::round::Round;
-use files::{Priced, read_readings, read_round, write_whole};
+use files::{Priced, read_image, read_price_list, read_readings, read_round, write_whole};
 use guide::guide;
 use help::{HELP, VERSION};
 use inputs::command::{Command, Rehearsal, read_command};
@@ -95,11 +95,17 @@ struct Staged {
 }
 
 impl Staged {
+    // The files are read in the order in which the command line names them, and the
+    // first that is wrong is told.
     fn read<'a>(rt: &HostRuntime, rehearsal: &Rehearsal<'a>) -> Result<Staged, Trouble<'a>> {
+        let image = read_image(rt, rehearsal.round)?;
+        let tape = read_readings(rt, rehearsal.tape)?;
+        let calls = script(rt.alloc(), rehearsal.steps, rehearsal.cuts.as_slice())?;
+        let prices = read_price_list(rt, rehearsal.prices)?;
         Ok(Staged {
-            priced: read_round(rt, rehearsal.round, rehearsal.prices)?,
-            tape: read_readings(rt, rehearsal.tape)?,
-            calls: script(rt.alloc(), rehearsal.steps, rehearsal.cuts.as_slice())?,
+            priced: Priced { image, prices },
+            tape,
+            calls,
         })
     }
 

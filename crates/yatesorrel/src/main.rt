@@ -42,11 +42,13 @@ use verdict::Verdict;
 
 type Answer<'a> = Result<Verdict, Trouble<'a>>;
 
+#[inline(never)]
 fn list_file<'a>(rt: &HostRuntime, round: &'a str, prices: Option<&'a str>) -> Answer<'a> {
     let priced = read_round(rt, round, prices)?;
     Ok(list(rt, priced.image.as_slice(), &priced.prices)?)
 }
 
+#[inline(never)]
 fn certify_file<'a>(
     rt: &HostRuntime,
     round: &'a str,
@@ -58,6 +60,7 @@ fn certify_file<'a>(
 }
 
 // The image is written before anything is said of it.
+#[inline(never)]
 fn place_file<'a>(
     rt: &HostRuntime,
     round: &'a str,
@@ -76,6 +79,7 @@ fn place_file<'a>(
     Ok(verdict)
 }
 
+#[inline(never)]
 fn headroom_file<'a>(
     rt: &HostRuntime,
     round: &'a str,
@@ -123,6 +127,7 @@ fn refuse(rt: &HostRuntime, image: &[u8], refusal: Refusal) -> io::Result<Verdic
     Ok(Err(refusal))
 }
 
+#[inline(never)]
 fn run_file<'a>(rt: &HostRuntime, rehearsal: &Rehearsal<'a>) -> Answer<'a> {
     let staged = Staged::read(rt, rehearsal)?;
     let round = staged.round();
@@ -133,6 +138,7 @@ fn run_file<'a>(rt: &HostRuntime, rehearsal: &Rehearsal<'a>) -> Answer<'a> {
     Ok(Ok(()))
 }
 
+#[inline(never)]
 fn report_file<'a>(rt: &HostRuntime, rehearsal: &Rehearsal<'a>, out: &'a str) -> Answer<'a> {
     let staged = Staged::read(rt, rehearsal)?;
     let supply = format!(in rt.alloc(); "{}", Spelled(rehearsal.supply))?;

@@ -29,6 +29,26 @@ fn explain(rt: &HostRuntime, certified: Certified, refusal: Refusal) -> io::Resu
     print_advice(rt, refusal)
 }
 
+// Shows a round that is accepted, or over its budget, by its dearest walk.
+fn show_walk(
+    rt: &HostRuntime,
+    image: &[u8],
+    by: &Certifier<Prices>,
+    worths: &[Worth],
+    verdict: Verdict,
+) -> io::Result<()> {
+    let certified = Certified {
+        image,
+        prices: by.model,
+        nodes: &walk_table(image, by.model),
+        worths,
+    };
+    match verdict {
+        Ok(()) => praise(rt, certified, by.budget),
+        Err(refusal) => explain(rt, certified, refusal),
+    }
+}
+
 pub fn certify_round(
     rt: &HostRuntime,
     image: &[u8],
@@ -36,15 +56,9 @@ pub fn certify_round(
 ) -> io::Result<Verdict> {
     let mut worths = [Worth::default(); 1024];
     let verdict = by.certify(image, &mut worths);
-    let certified = Certified {
-        image,
-        prices: by.model,
-        nodes: &walk_table(image, by.model),
-        worths: &worths,
-    };
     match verdict {
-        Ok(()) => praise(rt, certified, by.budget)?,
-        Err(refusal) => explain(rt, certified, refusal)?,
+        Ok(()) | Err(Refusal::OverBudget { .. }) => show_walk(rt, image, by, &worths, verdict)?,
+        Err(refusal) => print_refusal(rt, image, refusal)?,
     }
     Ok(verdict)
 }

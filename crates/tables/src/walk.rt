@@ -9,7 +9,6 @@ ghost use Rattle.tables.specs.Node.{Tabled};
 ghost use Rattle.tables.specs.Walk.{onward_of, walk_node};
 
 use crate::node::successors_of;
-use crate::table::table_of;
 use isa::image::instruction_at;
 use isa::instruction::{Instruction, Role};
 use paths::node::{Node, Successors};
@@ -54,5 +53,10 @@ pub fn walk_table<M: PriceModel>(image: &[u8], model: &M) -> [Node; 1024]
     ensures table { Tabled no_node result (λ i. walk_node (M.PriceModel.means model.now) i (instruction_at image.now i)) 1024 }
     ensures described { Lawful image.now → (n : ℕ) → n < 1024 → Described result (net_of (graph_of (M.PriceModel.means model.now) image.now)) n }
 {
-    table_of(|at| walk_node(model, at, instruction_at(image, at)))
+    // Stays: array::from_fn makes the table elsewhere and moves it, which takes longer than filling it.
+    let mut nodes = [Node::default(); 1024];
+    for at in 0..1024u16 {
+        nodes[at as usize] = walk_node(model, at, instruction_at(image, at));
+    }
+    nodes
 }

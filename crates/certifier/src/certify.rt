@@ -58,7 +58,7 @@ impl<M: PriceModel> Certifier<'_, M> {
         ensures left { LeftBy V.PathValue.kind (graph_of (M.PriceModel.means self.now.model.now) image.now) worths.old worths.new result }
     {
         self.check_limits(worths.len())?;
-        let chart = Chart::of(image, self.model);
+        let chart = Chart::of_lawful(image, self.model);
         if !chart.lawful {
             return lawful(image);
         }

@@ -17,10 +17,11 @@ use Rattle.walks.specs.Graph.{net_of}
 use Rattle.walks.specs.ImageGraph.{role_in, graph_of}
 use Rattle.walks.specs.Certified.{is_save}
 use Rattle.tables.specs.Node.{Tabled}
-use Rattle.tables.specs.Start.{way_node, started_by}
+use Rattle.search.specs.Reach.{Reaches, Tells}
+use Rattle.tables.specs.Start.{way_node, started_by, way_net, Begins}
 use Rattle.tables.specs.Walk.{walk_node}
-use Rattle.tables.specs.Chart.{staying_in, opened_at, closed, charted_at, started_after}
-use Rattle.tables.proofs.Describing.{slots_small, described_at}
+use Rattle.tables.specs.Chart.{staying_in, opened_at, closed, charted_at, started_after, ChartOf}
+use Rattle.tables.proofs.Describing.{slots_small, described_at, starts_told, reaches_told, begins_told}
 
 -- past its end an image has no instruction
 pub absent : (image : List ℕ) (k : ℕ) → min (length image) 8192 / 8 ≤ k → k < 1024 → instruction_at image k ≡ None
@@ -272,3 +273,37 @@ all_started {saves} {reached} {starts} {i} S end = record { size = S.sized; hold
         S.no_start_yet k h ∙ sym (ap (λ (b : Bool). b && get_or reached k false) none))
         (cases_lt k i))
         ∙ sym (after_next saves reached k)
+
+-- a chart that is made of the opened slots and the saves of an image
+pub record Finished (m : Model) (image : List ℕ) (nodes : List Node) (starts reached : List Bool) : Type 0 where
+  pub nodes_told : Tabled no_node nodes (λ i. charted_at m i (instruction_at image i)) 1024
+  pub size : length starts ≡ 1024
+  pub starts_begin : Tells starts (Begins image)
+  pub reached_all : Tells reached (Reaches (way_net image) 0)
+
+pub finished : (m : Model) (image : List ℕ) {opened nodes : List Node} {saves starts reached : List Bool} (count : ℕ)
+    → count ≡ min (length image) 8192 / 8
+    → Tabled no_node opened (λ i. opened_at m i (instruction_at image i)) 1024
+    → Tabled false saves (λ i. is_save (role_in (instruction_at image i))) 1024
+    → Tells reached (Reaches (tabled opened) 0)
+    → Tabled false starts (started_after (take count saves) reached) 1024
+    → length nodes ≡ 1024
+    → ((k : ℕ) → k < 1024 → node_at nodes k ≡ closed (get_or (take count saves) k false) (node_at opened k))
+    → Finished m image nodes starts reached
+finished m image {opened} {nodes} {saves} {starts} {reached} count same o t r s size c =
+    let told = saves_in image saves count same t in
+    let all = reaches_told image opened o.size (opened_ways m image opened o) reached r in
+    record {
+      nodes_told = charted m image (take count saves) size o told c;
+      size = s.size;
+      starts_begin = begins_told image reached all starts (started_charted image (take count saves) reached told starts s);
+      reached_all = all;
+    }
+
+pub finished_chart : (m : Model) (image : List ℕ) {nodes : List Node} {starts reached : List Bool} → Finished m image nodes starts reached
+    → Lawful image → ChartOf (graph_of m image) nodes starts
+finished_chart m image {nodes} {starts} f lawful = record {
+  described = chart_described m image lawful nodes f.nodes_told;
+  beyond = chart_ends m image lawful nodes f.nodes_told;
+  told = starts_told m image lawful starts f.starts_begin;
+}

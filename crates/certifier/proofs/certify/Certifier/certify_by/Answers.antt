@@ -22,7 +22,7 @@ returns g c =
     let k = g.V.PathValue.kind in
     let price = g.V.Priced.price in
     let new = c.judge.new.worths in
-    let lawful = c.of-chart.ensures.lawful.0 c.if-not-chart.false in
+    let lawful = c.of_lawful-chart.ensures.lawful.0 c.if-not-chart.false in
     let e =
     at_worths m image by.budget (length old) (in_order image by.budget (length old) (sym c.check_limits.ensures ∙ c.in_ok-check_limits.was) lawful)
     (g.met.M.PriceModel.bounded by.model.now)
@@ -73,7 +73,7 @@ returns-then-not-chart g c =
         → admission c.args.image.now c.args.self.now.budget (length c.args.worths.now) ≡ lawfulness c.args.image.now
         → Refused g.V.PathValue.kind (g.M.PriceModel.means c.args.self.now.model.now) c.args.image.now c.args.self.now.budget c.args.worths.now c.lawful.result
     go (Ok u) is told room =
-        absurd (true≢false (sym (c.of-chart.ensures.lawful.1 ((judging c.args.image.now).accepted (sym told ∙ is))) ∙ c.if-not-chart.true))
+        absurd (true≢false (sym (c.of_lawful-chart.ensures.lawful.1 ((judging c.args.image.now).accepted (sym told ∙ is))) ∙ c.if-not-chart.true))
     go (Err refusal) is told room =
         refused g.V.PathValue.kind (g.M.PriceModel.means c.args.self.now.model.now) c.args.image.now c.args.self.now.budget c.args.worths.now
         c.lawful.result refusal is (room ∙ sym told ∙ is)
